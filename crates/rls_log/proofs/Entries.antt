@@ -1,5 +1,5 @@
 -- Operations kept as bytes.
-use Rattle.std.proofs.Common.{◌≡◌, ◌∙◌, ℕ, ◌+◌, ◌-◌, ◌^◌, zero, suc, ◌<◌, ◌≤◌, Bool, true, false, not, List, [], ◌∷◌, ◌++◌, length, take, drop, Some, None, Ok, Err, IfSome, refl, sym, ap, subst, arith}
+use Rattle.std.proofs.Common.{◌≡◌, ◌∙◌, ℕ, ◌+◌, ◌-◌, ◌^◌, zero, suc, ◌<◌, ◌≤◌, Bool, true, false, not, List, [], ◌∷◌, ◌++◌, length, take, drop, Some, None, Ok, Err, refl, sym, ap, subst, arith}
 use Rattle.std.specs.Prelude.{All, slice_get, slice_index, option_map, nat_le, if◌then◌else◌}
 use Rattle.std.specs.List.{filter}
 use Rattle.std.proofs.lemmas.List.{append-nil, take_at, drop_at, map-append, length-append, length-drop, length-take, take-append-le, drop-append-le, take-append-drop, take_all, drop-drop}
@@ -22,7 +22,7 @@ use Rattle.rls_log.specs.declared.entry.Entry.{Entry}
 use Rattle.rls_log.specs.declared.head.OpHead.{OpHead}
 use Rattle.rls_log.specs.Heads.{is_head_covered, IsHeadOf}
 use Rattle.rls_log.specs.Fitting.{AreFit}
-use Rattle.rls_log.specs.Encoded.{op_or_none, op_spelled, SpellOne, part_of, op_in, ops_in, large_of, IsEntry, AreEntries, EntryFound, EntriesFound}
+use Rattle.rls_log.specs.Encoded.{op_or_none, op_spelled, SpellOne, part_of, op_in, ops_in, IsEntry, AreEntries, EntryFound, EntriesFound}
 
 -- ---- one operation
 
@@ -64,18 +64,14 @@ long_enough members bytes s = let l = ap length s.bytes_are in let n = op_length
 
 -- ---- entries
 
--- the value that is kept for the entry, if any is, is this operation
-abbrev Keeps : Entry → Op → Type 0
-Keeps e o = IfSome (large_of e) (λ (p : Op). p ≡ o)
-
-pub entry_is : (bytes : List ℕ) (e : Entry) (o : Op) → e.start + e.len ≤ length bytes → part_of bytes e ≡ op_bytes o → FieldsFit e.head.members o → IsHeadOf e.head o → Keeps e o → IsEntry bytes e × (op_in bytes e ≡ o)
-entry_is bytes e o w p f h k =
+pub entry_is : (bytes : List ℕ) (e : Entry) (o : Op) → e.start + e.len ≤ length bytes → part_of bytes e ≡ op_bytes o → FieldsFit e.head.members o → IsHeadOf e.head o → IsEntry bytes e × (op_in bytes e ≡ o)
+entry_is bytes e o w p f h =
     let is = spelled_is e.head.members (part_of bytes e) o f p in
-    (record { within = w; spelled = spell_one e.head.members (part_of bytes e) o f p; head = subst (IsHeadOf e.head) (sym is) h; large = subst (Keeps e) (sym is) k }, is)
+    (record { within = w; spelled = spell_one e.head.members (part_of bytes e) o f p; head = subst (IsHeadOf e.head) (sym is) h }, is)
 
 -- an entry in other bytes in which its own are the same
 pub moved : (bytes other : List ℕ) (e : Entry) → IsEntry bytes e → e.start + e.len ≤ length other → part_of other e ≡ part_of bytes e → IsEntry other e × (op_in other e ≡ op_in bytes e)
-moved bytes other e h w p = entry_is other e (op_in bytes e) w (p ∙ h.spelled.bytes_are) h.spelled.fits h.head h.large
+moved bytes other e h w p = entry_is other e (op_in bytes e) w (p ∙ h.spelled.bytes_are) h.spelled.fits h.head
 
 all_moved : (bytes other : List ℕ) (es : List Entry) → AreEntries bytes es → ((e : Entry) → IsEntry bytes e → IsEntry other e × (op_in other e ≡ op_in bytes e)) → AreEntries other es × (ops_in other es ≡ ops_in bytes es)
 all_moved bytes other [] h go = (All-nil (IsEntry other), refl)
@@ -90,43 +86,49 @@ slice_more bytes more a b l h =
     let e : drop a (bytes ++ more) ≡ drop a bytes ++ more = drop-append-le a bytes more (omega (arith, l, h)) in
     ap (take (b - a)) e ∙ take-append-le (b - a) (drop a bytes) more (omega (arith, h, length-drop a bytes))
 
+pub one_after : (bytes more : List ℕ) (e : Entry) → IsEntry bytes e → IsEntry (bytes ++ more) e × (op_in (bytes ++ more) e ≡ op_in bytes e)
+one_after bytes more e k = moved bytes (bytes ++ more) e k (omega (arith, k.within, length-append bytes more)) (slice_more bytes more e.start (e.start + e.len) (omega arith) k.within)
+
 pub more_after : (bytes more : List ℕ) (es : List Entry) → AreEntries bytes es → AreEntries (bytes ++ more) es × (ops_in (bytes ++ more) es ≡ ops_in bytes es)
 more_after bytes more es h =
-    all_moved bytes (bytes ++ more) es h (λ e k. moved bytes (bytes ++ more) e k (omega (arith, k.within, length-append bytes more)) (slice_more bytes more e.start (e.start + e.len) (omega arith) k.within))
+    all_moved bytes (bytes ++ more) es h (one_after bytes more)
 
 -- only the first bytes
-pub fewer : (bytes : List ℕ) (n : ℕ) (es : List Entry) → n ≤ length bytes → AreEntries bytes es → All (λ (e : Entry). e.start + e.len ≤ n) es → AreEntries (take n bytes) es × (ops_in (take n bytes) es ≡ ops_in bytes es)
-fewer bytes n [] w h ends = (All-nil (IsEntry (take n bytes)), refl)
-fewer bytes n (e ∷ es) w h ends =
-    let k = All-head (IsEntry bytes) e es h in
-    let end = All-head (λ (f : Entry). f.start + f.len ≤ n) e es ends in
+pub one_within : (bytes : List ℕ) (n : ℕ) (e : Entry) → n ≤ length bytes → IsEntry bytes e → e.start + e.len ≤ n → IsEntry (take n bytes) e × (op_in (take n bytes) e ≡ op_in bytes e)
+one_within bytes n e w k end =
     let first = take n bytes in
     let len : length first ≡ n = omega (arith, length-take n bytes, w) in
     let same : part_of bytes e ≡ part_of first e =
     ap (λ bs. take ((e.start + e.len) - e.start) (drop e.start bs)) (sym (take-append-drop n bytes)) ∙ slice_more first (drop n bytes) e.start (e.start + e.len) (omega arith) (omega (arith, end, len)) in
-    let one = moved bytes first e k (omega (arith, end, len)) (sym same) in
+    moved bytes first e k (omega (arith, end, len)) (sym same)
+
+pub fewer : (bytes : List ℕ) (n : ℕ) (es : List Entry) → n ≤ length bytes → AreEntries bytes es → All (λ (e : Entry). e.start + e.len ≤ n) es → AreEntries (take n bytes) es × (ops_in (take n bytes) es ≡ ops_in bytes es)
+fewer bytes n [] w h ends = (All-nil (IsEntry (take n bytes)), refl)
+fewer bytes n (e ∷ es) w h ends =
+    let first = take n bytes in
+    let one = one_within bytes n e w (All-head (IsEntry bytes) e es h) (All-head (λ (f : Entry). f.start + f.len ≤ n) e es ends) in
     let rest = fewer bytes n es w (All-tail (IsEntry bytes) e es h) (All-tail (λ (f : Entry). f.start + f.len ≤ n) e es ends) in
     (All-cons (IsEntry first) e es one.0 rest.0, ap (λ o. o ∷ ops_in first es) one.1 ∙ ap (λ os. op_in bytes e ∷ os) rest.1)
 
 -- an operation that is put after the others
-pub pushed : (bytes : List ℕ) (es : List Entry) (o : Op) (e : Entry) → AreEntries bytes es → FieldsFit (length o.context) o → IsHeadOf e.head o → Keeps e o → e.start ≡ length bytes → e.len ≡ length (op_bytes o)
+pub pushed : (bytes : List ℕ) (es : List Entry) (o : Op) (e : Entry) → AreEntries bytes es → FieldsFit (length o.context) o → IsHeadOf e.head o → e.start ≡ length bytes → e.len ≡ length (op_bytes o)
     → AreEntries (bytes ++ op_bytes o) (es ++ e ∷ []) × (ops_in (bytes ++ op_bytes o) (es ++ e ∷ []) ≡ ops_in bytes es ++ o ∷ [])
-pushed bytes es o e h f head keeps start len =
+pushed bytes es o e h f head start len =
     let all = bytes ++ op_bytes o in
     let before = more_after bytes (op_bytes o) es h in
     let from : drop e.start all ≡ op_bytes o = drop_at bytes (op_bytes o) e.start (sym start) in
     let part : part_of all e ≡ op_bytes o = ap (take ((e.start + e.len) - e.start)) from ∙ take_all ((e.start + e.len) - e.start) (op_bytes o) (omega (arith, len)) in
-    let one = entry_is all e o (omega (arith, start, len, length-append bytes (op_bytes o))) part (subst (λ n. FieldsFit n o) (sym head.members) f) head keeps in
+    let one = entry_is all e o (omega (arith, start, len, length-append bytes (op_bytes o))) part (subst (λ n. FieldsFit n o) (sym head.members) f) head in
     (All-push (IsEntry all) es e before.0 one.0, map-append (op_in all) es (e ∷ []) ∙ ap (λ os. os ++ op_in all e ∷ []) before.1 ∙ ap (λ p. ops_in bytes es ++ p ∷ []) one.1)
 
 -- one that is copied from elsewhere
-pub copied : (bytes : List ℕ) (es : List Entry) (from : List ℕ) (d e : Entry) → AreEntries bytes es → IsEntry from d → e.head ≡ d.head → large_of e ≡ large_of d → e.start ≡ length bytes → e.len ≡ d.len
+pub copied : (bytes : List ℕ) (es : List Entry) (from : List ℕ) (d e : Entry) → AreEntries bytes es → IsEntry from d → e.head ≡ d.head → e.start ≡ length bytes → e.len ≡ d.len
     → AreEntries (bytes ++ part_of from d) (es ++ e ∷ []) × (ops_in (bytes ++ part_of from d) (es ++ e ∷ []) ≡ ops_in bytes es ++ op_in from d ∷ [])
-copied bytes es from d e h k head large start len =
+copied bytes es from d e h k head start len =
     let o = op_in from d in
     let part : length (part_of from d) ≡ d.len = omega (arith, length-take ((d.start + d.len) - d.start) (drop d.start from), length-drop d.start from, k.within) in
     let f : FieldsFit (length o.context) o = subst (λ n. FieldsFit n o) k.head.members k.spelled.fits in
-    let p = pushed bytes es o e h f (subst (λ (t : OpHead). IsHeadOf t o) (sym head) k.head) (subst (λ r. IfSome r (λ (q : Op). q ≡ o)) (sym large) k.large) start (omega (arith, len, part, ap length k.spelled.bytes_are)) in
+    let p = pushed bytes es o e h f (subst (λ (t : OpHead). IsHeadOf t o) (sym head) k.head) start (omega (arith, len, part, ap length k.spelled.bytes_are)) in
     subst (λ (b : List ℕ). AreEntries (bytes ++ b) (es ++ e ∷ []) × (ops_in (bytes ++ b) (es ++ e ∷ []) ≡ ops_in bytes es ++ o ∷ [])) (sym k.spelled.bytes_are) p
 
 -- the operation at a place
@@ -137,12 +139,6 @@ pub entry_at_place : (bytes : List ℕ) (es : List Entry) (i : ℕ) (e : Entry) 
 entry_at_place bytes [] i e h a = absurd cc
 entry_at_place bytes (d ∷ es) zero e h a = subst (IsEntry bytes) (some_is d e h) (All-head (IsEntry bytes) d es a)
 entry_at_place bytes (d ∷ es) (suc i) e h a = entry_at_place bytes es i e h (All-tail (IsEntry bytes) d es a)
-
--- the value that is kept at a place is the operation there
-pub value_at : (bytes : List ℕ) (es : List Entry) (i : ℕ) (e : Entry) (o : Op) → slice_get es i ≡ Some e → AreEntries bytes es → large_of e ≡ Some o → slice_get (ops_in bytes es) i ≡ Some o
-value_at bytes es i e o h a k =
-    let is : o ≡ op_in bytes e = subst (λ r. IfSome r (λ (q : Op). q ≡ op_in bytes e)) k (entry_at_place bytes es i e h a).large in
-    at_place bytes es i e h ∙ ap Some (sym is)
 
 pub covers : (bytes : List ℕ) (v : List ℕ) (e : Entry) → IsEntry bytes e → is_head_covered v e.head ≡ is_covered v (op_in bytes e)
 covers bytes v e k = ap (λ n. nat_le n (slice_index v e.head.author)) k.head.seq ∙ ap (λ a. nat_le (op_in bytes e).seq (slice_index v a)) k.head.author
@@ -167,8 +163,8 @@ slice_at : (all bytes front rest : List ℕ) (e : Entry) → drop e.start all �
 slice_at all bytes front rest e d b l = ap (take ((e.start + e.len) - e.start)) (d ∙ b) ∙ take_at front rest ((e.start + e.len) - e.start) (omega (arith, l))
 
 pub entry_found : (all bytes : List ℕ) (members : ℕ) (o : Op) (rest : List ℕ) (e : Entry) → IsBytes bytes → length bytes ≤ length all → drop (length all - length bytes) all ≡ bytes
-    → op_at members bytes ≡ Ok (o, rest) → IsHeadOf e.head o → Keeps e o → e.head.members ≡ members → e.start ≡ length all - length bytes → e.len ≡ length bytes - length rest → EntryFound all bytes members e rest
-entry_found all bytes members o rest e small short back read head keeps same start len =
+    → op_at members bytes ≡ Ok (o, rest) → IsHeadOf e.head o → e.head.members ≡ members → e.start ≡ length all - length bytes → e.len ≡ length bytes - length rest → EntryFound all bytes members e rest
+entry_found all bytes members o rest e small short back read head same start len =
     let t = op_takes members bytes o rest small read in
     let cut : length bytes ≡ length (op_bytes o) + length rest = ap length t.0 ∙ length-append (op_bytes o) rest in
     let n : e.len ≡ length (op_bytes o) = omega (arith, len, cut) in
@@ -176,7 +172,7 @@ entry_found all bytes members o rest e small short back read head keeps same sta
     let part : part_of all e ≡ op_bytes o = slice_at all bytes (op_bytes o) rest e from t.0 n in
     let s = t.1 in
     let f : FieldsFit members o = (s.author, s.seq, s.context, s.epoch, s.body) in
-    let is = entry_is all e o (omega (arith, start, n, cut, short)) part (subst (λ m. FieldsFit m o) (sym same) f) head keeps in
+    let is = entry_is all e o (omega (arith, start, n, cut, short)) part (subst (λ m. FieldsFit m o) (sym same) f) head in
     let after : length all - length rest ≡ e.start + length (op_bytes o) = omega (arith, start, cut, short) in
     record {
       read = read ∙ ap (λ p. Ok (p, rest)) (sym is.1);

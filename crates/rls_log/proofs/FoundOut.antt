@@ -271,6 +271,25 @@ unfolding op_at
 op_fails members bytes OutOfMemory h = tt
 op_fails members bytes (Fault left) h = rw h refl
 
+-- an operation that keeps the limit
+abbrev found : Op × List ℕ → Read Op
+found x = Ok x
+
+abbrev limited : ℕ → Op × List ℕ → Bool → Read Op
+limited n x b = if b then Err n else Ok x
+
+pub fields_of : (members : ℕ) (bytes : List ℕ) (o : Op) (rest : List ℕ) → op_at members bytes ≡ found (o, rest) → op_fields_at members bytes ≡ found (o, rest)
+unfolding op_at
+fields_of members bytes o rest e = go (op_fields_at members bytes) e
+  where
+    pick : (x : Op × List ℕ) (b : Bool) → limited (length bytes) x b ≡ found (o, rest) → found x ≡ found (o, rest)
+    pick x true h = absurd cc
+    pick x false h = h
+
+    go : (r : Read Op) → (r >>= λ x. limited (length bytes) x (nat_lt (length x.1 + OPERATION_BYTES) (length bytes))) ≡ found (o, rest) → r ≡ found (o, rest)
+    go (Ok x) h = pick x (nat_lt (length x.1 + OPERATION_BYTES) (length bytes)) h
+    go (Err left) h = absurd cc
+
 -- what is left is no more than there was
 pub head_within : (members : ℕ) (bytes : List ℕ) (h : OpHead) (rest : List ℕ) → IsBytes bytes → head_at members bytes ≡ Ok (h, rest) → length rest ≤ length bytes
 head_within members bytes h rest small e =

@@ -1,5 +1,6 @@
 pub mod Uncovered
 pub mod Entries
+pub mod Larges
 pub mod Steps
 pub mod Bounds
 pub mod Contexts

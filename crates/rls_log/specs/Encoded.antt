@@ -1,5 +1,5 @@
 -- Operations kept as bytes.
-use Rattle.std.specs.Prelude.{◌≡◌, ℕ, ◌+◌, ◌-◌, ◌≤◌, List, [], length, drop, All, Option, None, IfSome, Result, Ok, Err, map, slice_range}
+use Rattle.std.specs.Prelude.{◌≡◌, ℕ, ◌+◌, ◌-◌, ◌≤◌, List, [], length, drop, All, None, Result, Ok, Err, map, slice_range}
 use Rattle.rls_ident.specs.declared.epoch_name.EpochName.TheVariants.{Origin}
 use Rattle.rls_ops.specs.declared.op.Op.{Op}
 use Rattle.rls_ops.specs.declared.op.Body.TheVariants.{Leave}
@@ -8,7 +8,6 @@ use Rattle.rls_codec.specs.Reading.{op_fields_at, op_at, chain_at}
 use Rattle.rls_codec.specs.Spelled.{FieldsFit}
 use Rattle.rls_log.specs.declared.entry.Entry.{Entry}
 use Rattle.rls_log.specs.Heads.{IsHeadOf}
-use Rattle.rls_log.specs.Values.{value_of}
 
 -- any operation
 abbrev pub no_op : Op
@@ -39,16 +38,11 @@ op_in bytes e = op_spelled e.head.members (part_of bytes e)
 abbrev pub ops_in : List ℕ → List Entry → List Op
 ops_in bytes es = map (op_in bytes) es
 
--- the operation of an entry, where it is kept as a value too
-abbrev pub large_of : Entry → Option Op
-large_of e = value_of e.large
-
--- the bytes of the entry spell an operation, of which its head tells, and which is the one that is kept as a value
+-- the bytes of the entry spell an operation, of which its head tells
 pub record IsEntry (bytes : List ℕ) (e : Entry) : Type 0 where
   pub within : e.start + e.len ≤ length bytes
   pub spelled : SpellOne e.head.members (part_of bytes e)
   pub head : IsHeadOf e.head (op_in bytes e)
-  pub large : IfSome (large_of e) (λ o. o ≡ op_in bytes e)
 
 -- each does
 abbrev pub AreEntries : List ℕ → List Entry → Type 0

@@ -1,6 +1,6 @@
 pub mod Heads
-pub mod Values
 pub mod Fitting
 pub mod Encoded
+pub mod Large
 pub mod Latest
 pub mod Scanned

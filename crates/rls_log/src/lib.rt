@@ -4,6 +4,7 @@
 mod context;
 mod entry;
 mod head;
+mod large;
 mod latest;
 mod log;
 mod missing;

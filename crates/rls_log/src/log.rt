@@ -12,8 +12,11 @@ ghost use Rattle.rls_log.specs.Fitting.{AreFit};
 ghost use Rattle.rls_log.specs.Encoded.{SpellOne, op_spelled};
 
 use crate::context::is_context_at_most;
-use crate::entry::{Entry, large_deletion};
+use crate::entry::{Entry, start_of};
 use crate::head::OpHead;
+use crate::large::{
+    LargeDeletion, copy_of_value, drop_covered, drop_from, keep_large, keep_value, value_of,
+};
 use crate::latest::Latest;
 use rls_codec::{ReadError, encode_op, op_fields};
 use rls_ident::{Vector, rely};
@@ -22,13 +25,15 @@ use std::alloc::{AllocError, Global};
 use std::marker::Model;
 
 /// Operations in order, kept as the bytes that spell them. What is asked most of an operation, all but its context and its body,
-/// stands beside the bytes: it costs no reading. An operation takes its bytes in memory, and 48 more. A deletion of more than 512 bytes
+/// stands beside the bytes: it costs no reading. An operation takes its bytes in memory, and 40 more. A deletion of more than 512 bytes
 /// is there as a value too, since its targets may be looked up again and again. A member takes four bytes, for the number of its last
 /// operation: by these numbers a call that asks for what a vector doesn't cover finds from the end of the log where it begins.
 #[derive(Drop)]
 pub struct Log {
     pub(crate) bytes: Vec<u8>,
     pub(crate) entries: Vec<Entry>,
+    /// In the order of the entries.
+    pub(crate) values: Vec<LargeDeletion>,
     pub(crate) latest: Latest,
 }
 
@@ -43,7 +48,7 @@ impl Model for Log {
 
     ghost view = { λ l. ops_in l.bytes.items l.entries.items };
 
-    ghost invariant = { λ l. IsLog l.bytes.items l.entries.items l.latest };
+    ghost invariant = { λ l. IsLog l.bytes.items l.entries.items l.values.items l.latest };
 }
 
 impl Log {
@@ -54,6 +59,7 @@ impl Log {
         Log {
             bytes: Vec::new(alloc),
             entries: Vec::new(alloc),
+            values: Vec::new(alloc),
             latest: Latest::new(alloc),
         }
     }
@@ -68,7 +74,6 @@ impl Log {
             return Err(AllocError);
         }
         rely!(op.fits());
-        let large = large_deletion(*self.bytes.allocator(), op)?;
         self.entries.reserve(1)?;
         self.latest.reserve(op.context.len() as u32)?;
         let start = self.bytes.len();
@@ -77,8 +82,8 @@ impl Log {
             head: OpHead::of(op, op.context.len() as u32),
             start,
             len: (self.bytes.len() - start) as u32,
-            large,
         };
+        keep_large(&mut self.values, entry, op)?;
         self.latest.note(&entry.head);
         self.entries.push(entry).unwrap();
         Ok(())
@@ -89,9 +94,11 @@ impl Log {
     pub fn truncate(&mut self, n: usize)
         ensures first { self.new ≡ take n self.old }
     {
+        drop_from(&mut self.values, start_of(&self.entries, n));
         self.entries.truncate(n);
         if self.entries.is_empty() {
             self.bytes.clear();
+            self.values.clear();
         }
     }
 
@@ -143,10 +150,7 @@ impl Log {
         requires place { i < length self.now }
         ensures op { IfSome result (λ op. slice_get self.now i ≡ Some op.now) }
     {
-        match &self.entries[i].large {
-            Some(op) => Some(&**op),
-            None => None,
-        }
+        value_of(&self.values, &self.entries[i])
     }
 
     /// Whether the context of the operation at a place, counted from 0, counts at most what a vector counts, member by member. It is
@@ -178,6 +182,7 @@ impl Log {
         ensures kept { self.new ≡ missing_for vector.now self.old }
     {
         self.entries.retain(|entry| !entry.head.is_covered(vector));
+        drop_covered(&mut self.values, vector);
     }
 
     /// A log of the operations that a vector doesn't cover, in order.
@@ -186,19 +191,22 @@ impl Log {
     {
         let alloc = *self.bytes.allocator();
         let (mut bytes, mut entries) = (Vec::new(alloc), Vec::new(alloc));
+        let mut values = Vec::new(alloc);
         for i in 0..self.entries.len() {
             let entry = &self.entries[i];
             if entry.head.is_covered(vector) {
                 continue;
             }
-            let start = bytes.len();
+            let moved = entry.moved_to(bytes.len());
             bytes.extend_from_slice(entry.part(&self.bytes))?;
-            entries.push(entry.moved_to(alloc, start)?)?;
+            keep_value(&mut values, moved, copy_of_value(&self.values, entry)?)?;
+            entries.push(moved)?;
         }
         let latest = Latest::of(alloc, &entries)?;
         Ok(Log {
             bytes,
             entries,
+            values,
             latest,
         })
     }

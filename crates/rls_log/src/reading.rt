@@ -1,20 +1,26 @@
 //! A log, read.
 
 ghost use Rattle.std.specs.Prelude.{◌≡◌, ◌-◌, ◌≤◌, ◌^◌, ℕ, List, length, drop, None, Ok, IfOk, IfErr, IfSome};
-ghost use Rattle.rls_ops.specs.declared.op.Op.{Op as OpSeen};
-ghost use Rattle.rls_codec.specs.Reading.{op_fields_at, op_at, chain_at, counted_at};
+ghost use Rattle.rls_codec.specs.Reading.{op_at, chain_at, counted_at};
 ghost use Rattle.rls_codec.specs.Gives.{Gives, Fails};
 ghost use Rattle.rls_log.specs.Encoded.{EntryFound, EntriesFound, ops_in};
-ghost use Rattle.rls_log.specs.Values.{value_of};
+ghost use Rattle.rls_log.specs.Large.{AreLargeWithin};
 
-use crate::entry::{Entry, Large, is_large};
-use crate::head::OpHead;
+use crate::entry::Entry;
+use crate::large::{LargeDeletion, read_large};
 use crate::latest::Latest;
 use crate::log::Log;
 use crate::scanning::scan_op;
-use rls_codec::{ReadError, op_fields, u32_at};
+use rls_codec::{ReadError, u32_at};
 use rls_ident::limits::OPERATION_BYTES;
 use std::alloc::{AllocError, Global};
+
+/// The entries of operations that were read, and the values of the large deletions among them.
+#[derive(Drop)]
+struct Entries {
+    entries: Vec<Entry>,
+    values: Vec<LargeDeletion>,
+}
 
 // The entry of the operation at the front of the last bytes of these, and the bytes after it.
 fn entry_at<'a>(
@@ -33,53 +39,39 @@ fn entry_at<'a>(
     if len > OPERATION_BYTES as usize {
         return Err(ReadError::Fault { left: bytes.len() });
     }
-    let large = large_at(alloc, members, &head, len, bytes)?;
     let entry = Entry {
         head,
         start: all.len() - bytes.len(),
         len: len as u32,
-        large,
     };
     Ok((entry, rest))
 }
 
-// The operation at the front of the bytes, of which this is the head, if it is a large deletion. It has this many bytes.
-fn large_at(
-    alloc: Global,
-    members: u32,
-    head: &OpHead,
-    len: usize,
-    bytes: &[u8],
-) -> Result<Large, ReadError>
-    ensures large { IfOk result (λ large. (o : OpSeen) (rest : List ℕ) → op_fields_at members bytes.now ≡ Ok (o, rest) → IfSome (value_of large) (λ p. p ≡ o)) }
-    ensures fails { IfErr result (λ e. Fails e (op_fields_at members bytes.now)) }
-{
-    if !is_large(head.kind, len as u64) {
-        return Ok(None);
-    }
-    let (op, _) = op_fields(alloc, members, bytes)?;
-    let large = Box::new(alloc, op)?;
-    Ok(Some(large))
-}
+/// The fewest bytes that an operation has: author, number, one count, an epoch and a kind.
+const LEAST_BYTES: usize = 14;
 
-// The entries of this many operations at the front of the bytes, and the bytes after them.
+// The entries of this many operations at the front of the bytes, with the values of the large deletions; and the bytes after them.
 fn entry_list(
     alloc: Global,
     members: u32,
     count: u32,
     bytes: &[u8],
-) -> Result<(Vec<Entry>, &[u8]), ReadError>
-    ensures found { IfOk result (λ x. EntriesFound bytes.now members count x.0.items x.1.now) }
+) -> Result<(Entries, &[u8]), ReadError>
+    ensures found { IfOk result (λ x. EntriesFound bytes.now members count x.0.entries.items x.1.now) }
+    ensures values { IfOk result (λ x. AreLargeWithin bytes.now (length bytes.now - length x.1.now) x.0.values.items) }
     ensures fails { IfErr result (λ e. Fails e (chain_at (λ before. op_at members) None count bytes.now)) }
 {
-    let mut entries = Vec::new(alloc);
+    let room = (count as usize).min(bytes.len() / LEAST_BYTES);
+    let mut entries = Vec::with_capacity(alloc, room)?;
+    let mut values = Vec::new(alloc);
     let mut rest = bytes;
     for _ in 0..count {
         let (entry, after) = entry_at(alloc, members, bytes, rest)?;
         entries.push(entry)?;
+        read_large(alloc, &mut values, entry, members, rest)?;
         rest = after;
     }
-    Ok((entries, rest))
+    Ok((Entries { entries, values }, rest))
 }
 
 // The log of these entries, of which all stand before the last bytes.
@@ -89,17 +81,20 @@ fn log_of(
     count: u32,
     bytes: &[u8],
     rest: &[u8],
-    entries: Vec<Entry>,
+    found: Entries,
 ) -> Result<Log, AllocError>
-    requires found { EntriesFound bytes.now members count entries.items rest.now }
-    ensures log { IfOk result (λ log. log ≡ ops_in bytes.now entries.items) }
+    requires found { EntriesFound bytes.now members count found.entries.items rest.now }
+    requires values { AreLargeWithin bytes.now (length bytes.now - length rest.now) found.values.items }
+    ensures log { IfOk result (λ log. log ≡ ops_in bytes.now found.entries.items) }
 {
+    let Entries { entries, values } = found;
     let (front, _) = bytes.split_at(bytes.len() - rest.len());
     let bytes = Vec::from_slice(alloc, front)?;
     let latest = Latest::of(alloc, &entries)?;
     Ok(Log {
         bytes,
         entries,
+        values,
         latest,
     })
 }
@@ -110,7 +105,7 @@ pub fn read_log(alloc: Global, members: u32, bytes: &[u8]) -> Result<(Log, &[u8]
     ensures read { Gives (λ x. (x.0, x.1.now)) result (counted_at (λ before. op_at members) bytes.now) }
 {
     let (count, rest) = u32_at(bytes)?;
-    let (entries, after) = entry_list(alloc, members, count, rest)?;
-    let log = log_of(alloc, members, count, rest, after, entries)?;
+    let (found, after) = entry_list(alloc, members, count, rest)?;
+    let log = log_of(alloc, members, count, rest, after, found)?;
     Ok((log, after))
 }

@@ -13,11 +13,6 @@ returns-in_err-head-clause-fails c =
     let p = err_from_is_err_and c.from_residual.result c.from_residual.ensures.1 in
     rw (p.1, p.2) (op_fails c.args.members c.args.bytes.now c.in_err-head.field-0.0 (head_fails c.args.members c.args.bytes.now c.in_err-head.field-0.0 c.in_err-head.ensures.read))
 
-pub returns-in_err-large-clause-fails : goal.returns-in_err-large-clause-fails
-returns-in_err-large-clause-fails c =
-    let p = err_from_is_err_and c.from_residual-in_err-large.result c.from_residual-in_err-large.ensures.1 in
-    rw (p.1, p.2) (op_fails c.args.members c.args.bytes.now c.in_err-large.field-0.0 c.in_err-large.ensures.fails)
-
 pub returns-then-len-clause-fails : goal.returns-then-len-clause-fails
 returns-then-len-clause-fails c =
     let o = head_found c.args.members c.args.bytes.now c.in_ok-head.head c.in_ok-head.rest.now c.in_ok-head.ensures.read in
@@ -31,5 +26,5 @@ returns-clause-found c =
     let h = c.in_ok-head.head in
     let o = head_found m bytes h rest c.in_ok-head.ensures.read in
     let counts = head_members m bytes o.0 rest (λ i. omega (arith, c.type_inv.bytes i)) o.1 in
-    entry_found c.args.all.now bytes m o.0 rest _ (λ i. omega (arith, c.type_inv.bytes i)) c.requires.short c.requires.back (limit_kept m bytes o.0 rest o.1 (omega (arith, c.if-len.false))) (head_tells m o.0 h o.2 counts) (c.in_ok-large.ensures.large o.0 rest o.1)
+    entry_found c.args.all.now bytes m o.0 rest _ (λ i. omega (arith, c.type_inv.bytes i)) c.requires.short c.requires.back (limit_kept m bytes o.0 rest o.1 (omega (arith, c.if-len.false))) (head_tells m o.0 h o.2 counts)
     (ap (λ (x : OpHead). x.members) o.2) refl refl

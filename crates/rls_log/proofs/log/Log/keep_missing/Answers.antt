@@ -5,12 +5,14 @@ use Rattle.std.proofs.lemmas.Fn.{filter_same}
 use Rattle.rls_ops.specs.Rows.{missing_for}
 use Rattle.rls_log.specs.declared.entry.Entry.{Entry}
 use Rattle.rls_log.specs.Heads.{is_head_covered}
+use Rattle.rls_log.specs.declared.large.LargeDeletion.{LargeDeletion}
 use Rattle.rls_log.specs.Encoded.{IsEntry, ops_in}
+use Rattle.rls_log.specs.Large.{IsLarge}
 use Rattle.rls_log.proofs.Bounds.{bounds_kept}
 use Rattle.rls_log.proofs.Entries.{uncovered, covers}
 use Rattle.rls_log.proofs.log.Log.keep_missing.Goals as goal
 
-module _ (c : goal.After-retain) where
+module _ (c : goal.After-drop_covered) where
   kept : c.retain.new.self.items ≡ filter (λ (e : Entry). not (is_head_covered c.args.vector.now e.head)) c.self.inside.entries.items
   kept = filter_same _ _ _ (λ x b f' k. search rules) _ _ c.retain.ensures.filtered
 
@@ -27,6 +29,7 @@ invariant_of-self c =
     let v = c.args.vector.now in
     record {
       entries = All-same (IsEntry bytes) _ _ (kept c) (All-filter (λ (e : Entry). not (is_head_covered v e.head)) (IsEntry bytes) es c.self.invariant.entries);
+      values = All-same (IsLarge bytes) _ _ c.drop_covered.ensures.kept (All-filter (λ (x : LargeDeletion). not (is_head_covered v x.entry.head)) (IsLarge bytes) c.self.inside.values.items c.self.invariant.values);
       latest = bounds_kept c.self.inside.latest v (ops_in bytes es) (ops_in bytes c.retain.new.self.items) (left c) c.self.invariant.latest;
     }
 
