@@ -8,12 +8,13 @@ use Rattle.rls_ident.specs.declared.tuple.Tuple.{Tuple}
 use Rattle.rls_ident.specs.Identifiers.{shifted, follows}
 use Rattle.rls_ident.proofs.Ends.{eq_same}
 use Rattle.rls_ident.proofs.Shifted.{shifted_none, shifted_shifted}
-use Rattle.rls_runs.specs.Runs.{run_idents}
+use Rattle.rls_runs.specs.Runs.{run_idents, run_last}
 use Rattle.rls_runs.specs.Entries.{Entries}
+use Rattle.rls_runs.proofs.Cuts.{joined_front}
 use Rattle.rls_runs.proofs.Finding.{run_length}
 use Rattle.rls_runs.proofs.RunJoins.{run_longer}
-use Rattle.rls_blocks.specs.Trees.{Piece, piece_entries}
-use Rattle.rls_blocks.specs.Edits.{part_of, joined, inserted, removed}
+use Rattle.rls_blocks.specs.Trees.{Piece, IsPiece, piece_entries}
+use Rattle.rls_blocks.specs.Edits.{part_of, joined, lengthened_front, inserted, removed}
 
 zip_both : (xs ys : List (List Tuple)) (cs ds : List ℕ) → length xs ≡ length cs → zip (xs ++ ys) (cs ++ ds) ≡ zip xs cs ++ zip ys ds
 zip_both [] ys [] ds h = refl
@@ -26,6 +27,10 @@ pub entries_joined : (a b : Piece) → length a.1 ≡ a.0.1 → b.0.0 ≡ shifte
 entries_joined a b h e =
     ap (λ xs. zip xs (a.1 ++ b.1)) (run_longer a.0.0 a.0.1 b.0.1 ∙ ap (λ x. run_idents a.0.0 a.0.1 ++ run_idents x b.0.1) (sym e))
     ∙ zip_both (run_idents a.0.0 a.0.1) (run_idents b.0.0 b.0.1) a.1 b.1 (run_length a.0.0 a.0.1 ∙ sym h)
+
+-- a block grown at its front by the characters of one that it goes on with
+pub joined_before : (n b : Piece) → IsPiece n.0 n.1 → follows b.0.0 (run_last n.0) ≡ true → lengthened_front n.1 b ≡ joined n b
+joined_before n b h t = ap (λ k. ((shifted (pos 0 -ℤ pos k) b.0.0, b.0.1 + k), n.1 ++ b.1)) h.as_many ∙ ap (λ r. (r, n.1 ++ b.1)) (joined_front n.0 b.0 h.sound t)
 
 rest_all : (cs : List ℕ) (k n : ℕ) → length cs ≡ n → take (n - k) (drop k cs) ≡ drop k cs
 rest_all cs zero n h = take_all (n - 0) cs (omega arith)

@@ -1,5 +1,5 @@
 -- Changes of blocks.
-use Rattle.std.specs.Prelude.{◌≡◌, ℕ, ◌+◌, ◌-◌, ◌<◌, ◌≤◌, pos, Bool, true, false, not, ◌&&◌, nat_eq, nat_lt, List, [], ◌∷◌, ◌++◌, length, take, drop, Option, Some, None, if◌then◌else◌, IsTrue}
+use Rattle.std.specs.Prelude.{◌≡◌, ℕ, ◌+◌, ◌-◌, ◌<◌, ◌≤◌, pos, ◌-ℤ◌, Bool, true, false, not, ◌&&◌, nat_eq, nat_lt, List, [], ◌∷◌, ◌++◌, length, take, drop, Option, Some, None, if◌then◌else◌, IsTrue}
 use Rattle.rls_ident.specs.declared.tuple.Tuple.{Tuple}
 use Rattle.rls_ident.specs.Identifiers.{shifted, follows}
 use Rattle.rls_runs.specs.Runs.{run_last, is_run}
@@ -46,6 +46,10 @@ grown Behind n b = joined b n
 -- a block with these characters behind its own
 abbrev pub lengthened : List ℕ → Piece → Piece
 lengthened cs b = ((b.0.0, b.0.1 + length cs), b.1 ++ cs)
+
+-- a block with these characters before its own
+abbrev pub lengthened_front : List ℕ → Piece → Piece
+lengthened_front cs b = ((shifted (pos 0 -ℤ pos (length cs)) b.0.0, b.0.1 + length cs), cs ++ b.1)
 
 -- the identifier goes on with the run before it, where there is one
 abbrev pub goes_on : Option (List Tuple × ℕ) → List Tuple → Bool
@@ -98,29 +102,24 @@ among made (b ∷ bs) i = if nat_lt i (length b.1) then made b i ++ bs else b �
 abbrev pub put_among : Piece → List Piece → ℕ → List Piece
 put_among n bs i = among (put_in n) bs i
 
--- blocks, and one more behind so many characters, or if these end within a block, behind it
-abbrev pub with_block : Piece → List Piece → ℕ → List Piece
-with_block n [] i = n ∷ []
-with_block n (b ∷ bs) i = if nat_eq i 0 then n ∷ b ∷ bs else b ∷ with_block n bs (i - length b.1)
-
--- the block can change so: it touches the block in front, there are identifiers for the characters behind, or it has more characters than those that go
+-- the block can change so: there are identifiers for the characters before its own or after them, or it has more characters than those that go
 abbrev pub MayChange : Change → Piece → Type 0
-MayChange (GrowFront n) b = IsTrue (follows b.0.0 (run_last n.0))
-MayChange (GrowBehind cs) b = IsTrue (is_run (b.0.0, b.0.1 + length cs))
+MayChange (GrowFront cs) b = IsTrue (is_run (lengthened_front cs.now b).0)
+MayChange (GrowBehind cs) b = IsTrue (is_run (lengthened cs.now b).0)
 MayChange (KeepFront at) b = (0 < at) × (at ≤ length b.1)
 MayChange (KeepBack from) b = from < length b.1
 
 -- the block after the change
 abbrev pub changed : Change → Piece → Piece
-changed (GrowFront n) b = joined n b
-changed (GrowBehind cs) b = lengthened cs b
+changed (GrowFront cs) b = lengthened_front cs.now b
+changed (GrowBehind cs) b = lengthened cs.now b
 changed (KeepFront at) b = part_of 0 at b
 changed (KeepBack from) b = part_of from (b.0.1 - from) b
 
 -- so many characters come with the change
 abbrev pub gain : Change → ℕ
-gain (GrowFront n) = length n.1
-gain (GrowBehind cs) = length cs
+gain (GrowFront cs) = length cs.now
+gain (GrowBehind cs) = length cs.now
 gain (KeepFront at) = 0
 gain (KeepBack from) = 0
 

@@ -16,6 +16,9 @@ fn make(side: Side, first: Link, middle: Single, other: Link) -> Link
     ensures chars { length (entries_of result.blocks) ≡ length (entries_of first.blocks) + length middle.1 + length (entries_of other.blocks) }
     ensures height { result.height ≡ max first.height other.height + 1 }
 {
+    if first.node().is_none() && other.node().is_none() {
+        return middle.alone();
+    }
     match side {
         Side::Front => Opened::new(first, middle, other).close(),
         Side::Behind => Opened::new(other, middle, first).close(),
@@ -58,6 +61,7 @@ pub(crate) fn join(left: Link, middle: Single, right: Link) -> Link
     ensures chars { length (entries_of result.blocks) ≡ length (entries_of left.blocks) + length middle.1 + length (entries_of right.blocks) }
     ensures not_lower { max left.height right.height ≤ result.height }
     ensures at_most_one_higher { result.height ≤ max left.height right.height + 1 }
+    ensures stays { left.height ≤ right.height + 1 → right.height ≤ left.height + 1 → result.height ≡ max left.height right.height + 1 }
 {
     if left.height() < right.height() {
         return join_to(Side::Behind, right, middle, left);
@@ -73,6 +77,7 @@ fn join_to(side: Side, high: Link, middle: Single, low: Link) -> Link
     ensures chars { length (entries_of result.blocks) ≡ length (entries_of high.blocks) + length middle.1 + length (entries_of low.blocks) }
     ensures not_lower { max high.height low.height ≤ result.height }
     ensures at_most_one_higher { result.height ≤ max high.height low.height + 1 }
+    ensures stays { high.height ≤ low.height + 1 → result.height ≡ max high.height low.height + 1 }
 {
     if high.height() <= low.height() + 1 {
         return make(side, high, middle, low);

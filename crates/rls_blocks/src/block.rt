@@ -4,7 +4,7 @@ ghost use Rattle.std.specs.Prelude.{◌≡◌, ◌+◌, ◌-◌, ◌<◌, ◌≤
 ghost use Rattle.rls_ident.specs.Identifiers.{shifted, follows};
 ghost use Rattle.rls_runs.specs.Runs.{is_run, run_last};
 ghost use Rattle.rls_blocks.specs.Trees.{IsPiece};
-ghost use Rattle.rls_blocks.specs.Edits.{part_of, joined, lengthened};
+ghost use Rattle.rls_blocks.specs.Edits.{part_of, joined, lengthened, lengthened_front};
 
 use rls_ident::{Ident, rely};
 use rls_runs::{Run, RunError, Text};
@@ -90,23 +90,23 @@ impl Block {
         (run, text)
     }
 
-    // The block of these characters, with the identifiers from this one on. It copies that.
-    pub(crate) fn of_text(first: &Ident, text: Text) -> Result<Block, AllocError>
-        requires piece { IsPiece (first.now, length text) text }
-        ensures block { IfOk result (λ block. block ≡ ((first.now, length text), text)) }
+    // The block of these characters, with the identifiers from this one on. It copies both.
+    pub(crate) fn of_text(first: &Ident, text: &Text) -> Result<Block, AllocError>
+        requires piece { IsPiece (first.now, length text.now) text.now }
+        ensures block { IfOk result (λ block. block ≡ ((first.now, length text.now), text.now)) }
     {
         let len = text.len() as u32;
         match Run::new(first.copy()?, len) {
-            Ok(run) => Ok(Block::new(run, text)),
+            Ok(run) => Ok(Block::new(run, text.copy()?)),
             Err(RunError::Empty) => unreachable!(),
             Err(RunError::OffsetEnd) => unreachable!(),
         }
     }
 
     // Grows at its end by these characters, with the identifiers that go on with its last one. It costs their number.
-    pub(crate) fn lengthen(&mut self, text: Text) -> Result<(), AllocError>
-        requires fits { IsTrue (is_run (self.old.0.0, self.old.0.1 + length text)) }
-        ensures ok { OnOk result (self.new ≡ lengthened text self.old) }
+    pub(crate) fn lengthen(&mut self, text: &Text) -> Result<(), AllocError>
+        requires fits { IsTrue (is_run (self.old.0.0, self.old.0.1 + length text.now)) }
+        ensures ok { OnOk result (self.new ≡ lengthened text.now self.old) }
         ensures err { OnErr result (self.new ≡ self.old) }
     {
         let more = text.len() as u32;
@@ -116,10 +116,10 @@ impl Block {
     }
 
     // Grows at its end by a run that goes on with its own, and the run's characters. It costs their number.
-    pub(crate) fn extend(&mut self, run: &Run, text: Text) -> Result<(), AllocError>
-        requires as_many { length text ≡ run.now.1 }
+    pub(crate) fn extend(&mut self, run: &Run, text: &Text) -> Result<(), AllocError>
+        requires as_many { length text.now ≡ run.now.1 }
         requires touches { IsTrue (follows run.now.0 (run_last self.old.0)) }
-        ensures ok { OnOk result (self.new ≡ joined self.old (run.now, text)) }
+        ensures ok { OnOk result (self.new ≡ joined self.old (run.now, text.now)) }
         ensures err { OnErr result (self.new ≡ self.old) }
     {
         rely!(let _more = run.len());
@@ -127,27 +127,28 @@ impl Block {
         self.lengthen(text)
     }
 
-    // Grows at its front by a block with which its own run goes on. It costs that block's characters.
-    pub(crate) fn prepend(&mut self, piece: Block) -> Result<(), AllocError>
-        requires touches { IsTrue (follows self.old.0.0 (run_last piece.0)) }
-        ensures ok { OnOk result (self.new ≡ joined piece self.old) }
+    // Grows at its front by these characters, with the identifiers that come right before its first one. It costs their number.
+    pub(crate) fn lengthen_front(&mut self, text: &Text) -> Result<(), AllocError>
+        requires fits { IsTrue (is_run (lengthened_front text.now self.old).0) }
+        ensures ok { OnOk result (self.new ≡ lengthened_front text.now self.old) }
         ensures err { OnErr result (self.new ≡ self.old) }
     {
-        let (mut run, text) = piece.into_parts();
-        run.grow(self.run.len());
+        let more = text.len() as u32;
         self.text.prepend(text)?;
-        self.run = run;
+        self.run.grow_front(more);
         Ok(())
     }
 
-    // The same of a run and its characters. It costs their number.
-    pub(crate) fn extend_front(&mut self, run: &Run, text: Text) -> Result<(), AllocError>
-        requires as_many { length text ≡ run.now.1 }
+    // Grows at its front by a run with which its own goes on, and the run's characters. It costs their number.
+    pub(crate) fn extend_front(&mut self, run: &Run, text: &Text) -> Result<(), AllocError>
+        requires as_many { length text.now ≡ run.now.1 }
         requires touches { IsTrue (follows self.old.0.0 (run_last run.now)) }
-        ensures ok { OnOk result (self.new ≡ joined (run.now, text) self.old) }
+        ensures ok { OnOk result (self.new ≡ joined (run.now, text.now) self.old) }
         ensures err { OnErr result (self.new ≡ self.old) }
     {
-        self.prepend(Block::new(run.copy()?, text))
+        rely!(let _more = run.len());
+        rely!(let _len = self.len());
+        self.lengthen_front(text)
     }
 
     // This many of its characters from a place on, as a block. It costs their number.

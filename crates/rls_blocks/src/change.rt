@@ -7,15 +7,14 @@ use crate::block::Block;
 use rls_ident::rely;
 use rls_runs::Text;
 use std::alloc::AllocError;
-use std::mem;
 
 /// How a block changes.
-#[derive(Drop)]
-pub(crate) enum Change {
-    /// This block, which touches it, becomes its front.
-    GrowFront(Block),
-    /// These characters come behind its own, with the identifiers that go on with its last one.
-    GrowBehind(Text),
+#[derive(Clone, Copy)]
+pub(crate) enum Change<'a> {
+    /// These characters come before its own, with the identifiers right before its first one.
+    GrowFront(&'a Text),
+    /// These characters come after its own, with the identifiers that go on with its last one.
+    GrowBehind(&'a Text),
     /// It keeps this many characters at its front.
     KeepFront(u32),
     /// It keeps its characters from this place on.
@@ -23,16 +22,16 @@ pub(crate) enum Change {
 }
 
 impl Block {
-    /// The block after a change, which is used up. It costs the characters that come, or those that go.
-    pub(crate) fn change(&mut self, change: &mut Change) -> Result<(), AllocError>
-        requires may { MayChange change.old self.old }
-        ensures ok { OnOk result (self.new ≡ changed change.old self.old) }
+    /// The block after a change. It costs the characters that come, or those that go.
+    pub(crate) fn change(&mut self, change: Change<'_>) -> Result<(), AllocError>
+        requires may { MayChange change self.old }
+        ensures ok { OnOk result (self.new ≡ changed change.entry self.old) }
         ensures err { OnErr result (self.new ≡ self.old) }
-        ensures chars { length self.new.1 ≤ length self.old.1 + gain change.old }
+        ensures chars { length self.new.1 ≤ length self.old.1 + gain change.entry }
     {
         rely!(let _len = self.len());
-        match mem::replace(change, Change::KeepFront(0)) {
-            Change::GrowFront(piece) => self.prepend(piece),
+        match change {
+            Change::GrowFront(text) => self.lengthen_front(text),
             Change::GrowBehind(text) => self.lengthen(text),
             Change::KeepFront(at) => {
                 self.keep_front(at);

@@ -2,15 +2,16 @@
 
 ghost use Rattle.std.specs.Prelude.{◌≡◌, ◌+◌, ◌-◌, ◌^◌, ◌<◌, ◌≤◌, ◌++◌, length, Some, None, IfOk, IfErr, OnOk, OnErr, IsTrue, false};
 ghost use Rattle.rls_ident.specs.Identifiers.{follows};
-ghost use Rattle.rls_runs.specs.Runs.{run_before, run_last, is_increasing};
+ghost use Rattle.rls_runs.specs.Runs.{run_before, run_last, is_run, is_increasing};
 ghost use Rattle.rls_runs.specs.Entries.{idents_in};
 ghost use Rattle.rls_blocks.specs.Trees.{piece_entries, entries_of, runs_in, IsPiece};
 ghost use Rattle.rls_blocks.specs.Edits.{joined, goes_on, leads_to, are_loose, inserted, located, begins_with, ends_with, Shows};
+ghost use Rattle.rls_blocks.specs.Beside.{lent, located_before};
 
 use crate::balance::join;
 use crate::block::Block;
 use crate::change::Change;
-use crate::node::{Link, Single};
+use crate::node::{Link, Place, Single};
 use crate::put::put_at;
 use crate::side::Side;
 use crate::split::{Halves, end_out, split};
@@ -20,87 +21,83 @@ use std::alloc::{AllocError, Global};
 
 /// Puts characters in at a place, with the identifiers from this one on. It costs a step for each level and the characters;
 /// if a block is cut in two there, the characters of the shorter part, and if two blocks are joined, those of the shorter one.
-/// Where it only makes one block longer at its end, no node is made or taken apart and the identifier isn't copied. It answers the new
-/// tree.
+/// Where it only makes one block longer, at its end or at its front, no node is made or taken apart and the identifier isn't copied. It
+/// answers the new tree.
 ///
 /// # Errors
 ///
 /// The tree with the blocks that it had, if there is no memory.
-pub fn insert_at(alloc: Global, link: Link, i: u64, first: &Ident, text: Text) -> Result<Link, Link>
+pub fn insert_at(
+    alloc: Global,
+    link: Link,
+    i: u64,
+    first: &Ident,
+    text: &Text,
+) -> Result<Link, Link>
     requires place { i ≤ length (entries_of link.blocks) }
-    requires piece { IsPiece (first.now, length text) text }
-    requires chars_fit { length (entries_of link.blocks) + length text < 2 ^ 64 }
+    requires piece { IsPiece (first.now, length text.now) text.now }
+    requires chars_fit { length (entries_of link.blocks) + length text.now < 2 ^ 64 }
     requires loose { IsTrue (are_loose None (runs_in link.blocks)) }
-    requires rises { IsTrue (is_increasing (idents_in (inserted i (piece_entries ((first.now, length text), text)) (entries_of link.blocks)))) }
-    ensures ok { IfOk result (λ new. Shows (inserted i (piece_entries ((first.now, length text), text)) (entries_of link.blocks)) new.blocks) }
+    requires rises { IsTrue (is_increasing (idents_in (inserted i (piece_entries ((first.now, length text.now), text.now)) (entries_of link.blocks)))) }
+    ensures ok { IfOk result (λ new. Shows (inserted i (piece_entries ((first.now, length text.now), text.now)) (entries_of link.blocks)) new.blocks) }
     ensures err { IfErr result (λ old. old.blocks ≡ link.blocks) }
 {
     rely!(let _chars = link.chars());
     let len = text.len() as u32;
-    if link.begins_with(i, first, len) {
-        return insert_before(link, i, first, text);
+    let (before, after) = link.beside(i);
+    let ends = ends_with(before, first);
+    if begins_with(after, first, len) {
+        if ends {
+            return fill_between(link, i, first, text);
+        }
+        return link.with_change(i, Change::GrowFront(text));
     }
-    if i == 0 {
-        return put_first(alloc, link, first, text);
-    }
-    if link.ends_with(i - 1, first) {
+    if ends {
         return link.with_change(i - 1, Change::GrowBehind(text));
     }
-    match Block::of_text(first, text) {
-        Ok(piece) => put_at(alloc, link, i - 1, piece),
-        Err(_) => Err(link),
-    }
+    put_alone(alloc, link, i, first, text)
 }
 
-// In front of a block that goes on with it.
-fn insert_before(link: Link, i: u64, first: &Ident, text: Text) -> Result<Link, Link>
-    requires piece { IsPiece (first.now, length text) text }
-    requires chars_fit { length (entries_of link.blocks) + length text < 2 ^ 64 }
-    requires loose { IsTrue (are_loose None (runs_in link.blocks)) }
-    requires begins { IsTrue (begins_with (located link.blocks i) (first.now, length text)) }
-    requires place { i < length (entries_of link.blocks) }
-    ensures ok { IfOk result (λ new. Shows (inserted i (piece_entries ((first.now, length text), text)) (entries_of link.blocks)) new.blocks) }
-    ensures err { IfErr result (λ old. old.blocks ≡ link.blocks) }
+// Whether a place is the last one of its block, and the identifier goes on with that.
+fn ends_with(place: Option<Place<'_>>, first: &Ident) -> bool
+    ensures ends { result ≡ ends_with (lent place.entry) first.now }
 {
-    let Ok(piece) = Block::of_text(first, text) else {
-        return Err(link);
+    let Some((block, at)) = place else {
+        return false;
     };
-    put_before(link, i, piece)
+    at == block.len() - 1 && block.run().touches(first)
 }
 
-// The same of a block.
-fn put_before(link: Link, i: u64, piece: Block) -> Result<Link, Link>
-    requires chars_fit { length (entries_of link.blocks) + length piece.1 < 2 ^ 64 }
-    requires loose { IsTrue (are_loose None (runs_in link.blocks)) }
-    requires begins { IsTrue (begins_with (located link.blocks i) piece.0) }
-    requires place { i < length (entries_of link.blocks) }
-    ensures ok { IfOk result (λ new. Shows (inserted i (piece_entries piece) (entries_of link.blocks)) new.blocks) }
-    ensures err { IfErr result (λ old. old.blocks ≡ link.blocks) }
+// Whether a place is the first one of its block, and that goes on with this many identifiers from this one on.
+fn begins_with(place: Option<Place<'_>>, first: &Ident, len: u32) -> bool
+    requires run { IsTrue (is_run (first.now, len)) }
+    ensures begins { result ≡ begins_with (lent place.entry) (first.now, len) }
 {
-    rely!(let _chars = link.chars());
-    rely!(let _len = piece.len());
-    if i == 0 {
-        return link.with_change(i, Change::GrowFront(piece));
-    }
-    if link.ends_with(i - 1, piece.run().first()) {
-        return fill_at(link, i, piece);
-    }
-    link.with_change(i, Change::GrowFront(piece))
+    let Some((block, at)) = place else {
+        return false;
+    };
+    at == 0 && block.run().first().follows_by(first, len)
 }
 
-// In front of all blocks, of which the first doesn't go on with it.
-fn put_first(alloc: Global, link: Link, first: &Ident, text: Text) -> Result<Link, Link>
-    requires piece { IsPiece (first.now, length text) text }
-    requires chars_fit { length (entries_of link.blocks) + length text < 2 ^ 64 }
+// As a block of its own, where it touches neither the block before it nor the one after it.
+fn put_alone(alloc: Global, link: Link, i: u64, first: &Ident, text: &Text) -> Result<Link, Link>
+    requires place { i ≤ length (entries_of link.blocks) }
+    requires piece { IsPiece (first.now, length text.now) text.now }
+    requires chars_fit { length (entries_of link.blocks) + length text.now < 2 ^ 64 }
     requires loose { IsTrue (are_loose None (runs_in link.blocks)) }
-    requires begins { begins_with (located link.blocks 0) (first.now, length text) ≡ false }
-    ensures ok { IfOk result (λ new. Shows (inserted 0 (piece_entries ((first.now, length text), text)) (entries_of link.blocks)) new.blocks) }
+    requires ends { ends_with (located_before None link.blocks i) first.now ≡ false }
+    requires begins { begins_with (located link.blocks i) (first.now, length text.now) ≡ false }
+    requires rises { IsTrue (is_increasing (idents_in (inserted i (piece_entries ((first.now, length text.now), text.now)) (entries_of link.blocks)))) }
+    ensures ok { IfOk result (λ new. Shows (inserted i (piece_entries ((first.now, length text.now), text.now)) (entries_of link.blocks)) new.blocks) }
     ensures err { IfErr result (λ old. old.blocks ≡ link.blocks) }
 {
     rely!(let _chars = link.chars());
     let Ok(piece) = Block::of_text(first, text) else {
         return Err(link);
     };
+    if i > 0 {
+        return put_at(alloc, link, i - 1, piece);
+    }
     match Single::new(alloc, piece) {
         Ok(new) => Ok(join(Link::empty(), new, link)),
         Err(_) => Err(link),
@@ -108,17 +105,20 @@ fn put_first(alloc: Global, link: Link, first: &Ident, text: Text) -> Result<Lin
 }
 
 // Between two blocks that it joins.
-fn fill_at(link: Link, i: u64, piece: Block) -> Result<Link, Link>
-    requires chars_fit { length (entries_of link.blocks) + length piece.1 < 2 ^ 64 }
+fn fill_between(link: Link, i: u64, first: &Ident, text: &Text) -> Result<Link, Link>
+    requires place { i ≤ length (entries_of link.blocks) }
+    requires piece { IsPiece (first.now, length text.now) text.now }
+    requires chars_fit { length (entries_of link.blocks) + length text.now < 2 ^ 64 }
     requires loose { IsTrue (are_loose None (runs_in link.blocks)) }
-    requires some { 0 < i }
-    requires place { i < length (entries_of link.blocks) }
-    requires begins { IsTrue (begins_with (located link.blocks i) piece.0) }
-    requires ends { IsTrue (ends_with (located link.blocks (i - 1)) piece.0.0) }
-    ensures ok { IfOk result (λ new. Shows (inserted i (piece_entries piece) (entries_of link.blocks)) new.blocks) }
+    requires ends { IsTrue (ends_with (located_before None link.blocks i) first.now) }
+    requires begins { IsTrue (begins_with (located link.blocks i) (first.now, length text.now)) }
+    ensures ok { IfOk result (λ new. Shows (inserted i (piece_entries ((first.now, length text.now), text.now)) (entries_of link.blocks)) new.blocks) }
     ensures err { IfErr result (λ old. old.blocks ≡ link.blocks) }
 {
     rely!(let _chars = link.chars());
+    let Ok(piece) = Block::of_text(first, text) else {
+        return Err(link);
+    };
     let (run, text) = piece.into_parts();
     match split(link, i) {
         Halves::Between(front, behind) => fill_gap(front, behind, run, text),
@@ -186,7 +186,7 @@ fn fill_behind(last: &mut Single, middle: Block, first: &Single) -> Result<(), A
     ensures err { OnErr result (last.new ≡ last.old) }
 {
     let (run, text) = with_next(middle, first)?;
-    last.grow(Side::Behind, &run, text)
+    last.grow(Side::Behind, &run, &text)
 }
 
 // A block grows by the block in front of it, and by the block in front of that.
@@ -199,7 +199,7 @@ fn fill_front(last: &Single, middle: Block, first: &mut Single) -> Result<(), Al
     rely!(let _last = last.len());
     rely!(let _middle = middle.len());
     let (run, text) = with_last(last, middle)?;
-    first.grow(Side::Front, &run, text)
+    first.grow(Side::Front, &run, &text)
 }
 
 // A block, grown by the block after it.
@@ -208,8 +208,7 @@ fn with_next(mut block: Block, next: &Single) -> Result<(Run, Text), AllocError>
     ensures both { IfOk result (λ both. (both.0, both.1) ≡ joined block next.now) }
     ensures as_many { IfOk result (λ both. length both.1 ≡ both.0.1) }
 {
-    let text = next.text().copy()?;
-    block.extend(next.run(), text)?;
+    block.extend(next.run(), next.text())?;
     Ok(block.into_parts())
 }
 
@@ -219,7 +218,6 @@ fn with_last(last: &Single, mut block: Block) -> Result<(Run, Text), AllocError>
     ensures both { IfOk result (λ both. (both.0, both.1) ≡ joined last.now block) }
     ensures as_many { IfOk result (λ both. length both.1 ≡ both.0.1) }
 {
-    let text = last.text().copy()?;
-    block.extend_front(last.run(), text)?;
+    block.extend_front(last.run(), last.text())?;
     Ok(block.into_parts())
 }

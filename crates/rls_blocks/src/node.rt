@@ -2,14 +2,13 @@
 
 ghost use Rattle.std.specs.Prelude.{◌≡◌, ℕ, ◌+◌, ◌^◌, ◌<◌, ◌≤◌, max, [], ◌∷◌, ◌++◌, length, Some, None, IfSome, IfNone, OnOk, IsTrue, encode_utf8_all};
 ghost use Rattle.std.specs.String.{string_bytes};
-ghost use Rattle.rls_ident.specs.Identifiers.{follows};
-ghost use Rattle.rls_runs.specs.Runs.{idents_of, is_run, run_last};
+ghost use Rattle.rls_runs.specs.Runs.{idents_of};
 ghost use Rattle.rls_runs.specs.Entries.{chars_in};
 ghost use Rattle.rls_runs.specs.Places.{find_ident};
 ghost use Rattle.rls_runs.specs.Fronts.{AboveFront, BelowFront};
 ghost use Rattle.rls_runs.proofs.RunOrder.{Rising};
 ghost use Rattle.rls_blocks.specs.Trees.{runs_in, IsLow, IsPiece, ArePieces, Tree, entries_of};
-ghost use Rattle.rls_blocks.specs.Edits.{around, located, begins_with, ends_with};
+ghost use Rattle.rls_blocks.specs.Edits.{around, located};
 
 mod beside;
 mod in_place;
@@ -180,30 +179,6 @@ impl Link {
             unreachable!()
         };
         node.locate(i)
-    }
-
-    /// Whether a block begins at a place, and goes on with this many identifiers from this one on. It costs a step for each level.
-    pub(crate) fn begins_with(&self, i: u64, first: &Ident, len: u32) -> bool
-        requires place { i ≤ length (entries_of self.now.blocks) }
-        requires run { IsTrue (is_run (first.now, len)) }
-        ensures begins { result ≡ begins_with (located self.now.blocks i) (first.now, len) }
-        ensures within { IsTrue result → i < length (entries_of self.now.blocks) }
-    {
-        if i == self.chars() {
-            return false;
-        }
-        let (block, at) = self.locate(i);
-        at == 0 && touches(first, len, block.run().first())
-    }
-
-    /// Whether a place is the last one of its block, and the identifier goes on with that. It costs a step for each level.
-    pub(crate) fn ends_with(&self, i: u64, first: &Ident) -> bool
-        requires place { i < length (entries_of self.now.blocks) }
-        ensures ends { result ≡ ends_with (located self.now.blocks i) first.now }
-    {
-        let (block, at) = self.locate(i);
-        let len = block.len();
-        at + 1 == len && block.run().touches(first)
     }
 
     /// Puts the characters after those of a text. It costs their number. After an error some of them are there.
@@ -384,7 +359,7 @@ impl Node {
         ensures ok { OnOk result (text.new ≡ text.old ++ chars_in (entries_of self.now.blocks)) }
     {
         self.left.push_text(text)?;
-        text.append(self.block.text().copy()?)?;
+        text.append(self.block.text())?;
         self.right.push_text(text)?;
         Ok(())
     }
@@ -408,12 +383,4 @@ impl Node {
     {
         self.block.len()
     }
-}
-
-// Whether an identifier goes on with this many from the first one on. It takes no memory.
-fn touches(first: &Ident, len: u32, next: &Ident) -> bool
-    requires run { IsTrue (is_run (first.now, len)) }
-    ensures touches { result ≡ follows next.now (run_last (first.now, len)) }
-{
-    next.follows_by(first, len)
 }

@@ -54,7 +54,7 @@ pub fn push_block(blocks: &mut Vec<Block>, block: Block) -> Result<(), AllocErro
     rely!(let _last = last.len());
     if last.run().touches(block.run().first()) {
         let (run, text) = block.into_parts();
-        last.extend(&run, text)?;
+        last.extend(&run, &text)?;
         blocks.push(last)?;
         return Ok(());
     }

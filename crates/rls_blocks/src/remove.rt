@@ -38,7 +38,7 @@ pub fn remove_range(alloc: Global, link: Link, i: u64, count: u64) -> Result<Lin
 }
 
 // How the block of a place changes where these characters are the first or the last ones of it, and not all.
-fn shortening(link: &Link, i: u64, count: u64) -> Option<Change>
+fn shortening(link: &Link, i: u64, count: u64) -> Option<Change<'static>>
     requires some { 0 < count }
     requires within { i + count ≤ length (entries_of link.now.blocks) }
     requires apart { IsTrue (are_apart None (runs_in link.now.blocks)) }
@@ -201,18 +201,12 @@ fn merge(mut last: Single, mut first: Single) -> Result<Single, (Single, Single)
     ensures err { IfErr result (λ both. (both.0 ≡ last) × (both.1 ≡ first)) }
 {
     if first.len() <= last.len() {
-        let Ok(text) = first.text().copy() else {
-            return Err((last, first));
-        };
-        return match last.grow(Side::Behind, first.run(), text) {
+        return match last.grow(Side::Behind, first.run(), first.text()) {
             Ok(()) => Ok(last),
             Err(_) => Err((last, first)),
         };
     }
-    let Ok(text) = last.text().copy() else {
-        return Err((last, first));
-    };
-    match first.grow(Side::Front, last.run(), text) {
+    match first.grow(Side::Front, last.run(), last.text()) {
         Ok(()) => Ok(first),
         Err(_) => Err((last, first)),
     }

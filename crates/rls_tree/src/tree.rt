@@ -277,7 +277,7 @@ impl BlockTree {
     /// It costs a step for each level and the characters; where they go into the middle of a run, also those in front of them there
     /// or those after them, whichever are fewer. At the end or at the front of a run that it goes on with it moves none of that
     /// run's characters; where it joins two runs, those of the shorter one. It compares identifiers only with the two neighbours,
-    /// and copies the first one only where it doesn't make a run longer at its end.
+    /// and copies the first one only where it doesn't make one run longer.
     ///
     /// # Errors
     ///
@@ -290,9 +290,8 @@ impl BlockTree {
         ensures ok { OnOk result (entries_of self.new.blocks ≡ inserted i (piece_entries ((first.now, length text.now), text.now)) (entries_of self.old.blocks)) }
         ensures err { OnErr result (entries_of self.new.blocks ≡ entries_of self.old.blocks) }
     {
-        let chars = text.copy()?;
         let link = mem::replace(&mut self.root, Link::empty());
-        match insert_at(self.alloc, link, i, first, chars) {
+        match insert_at(self.alloc, link, i, first, text) {
             Ok(root) => {
                 rely!(let _chars = root.chars());
                 self.root = root;

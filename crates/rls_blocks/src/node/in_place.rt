@@ -11,29 +11,29 @@ use std::alloc::AllocError;
 impl Link {
     /// The tree after a change of the block that has a place. It costs a step for each level and what the change costs; if it finds
     /// no memory it answers the tree as it was.
-    pub(crate) fn with_change(self, i: u64, change: Change) -> Result<Link, Link>
+    pub(crate) fn with_change(self, i: u64, change: Change<'_>) -> Result<Link, Link>
         requires place { i < length (entries_of self.blocks) }
         requires may { IfSome (located self.blocks i) (λ p. MayChange change p.0) }
         requires chars_fit { length (entries_of self.blocks) + gain change < 2 ^ 64 }
-        ensures ok { IfOk result (λ new. new.blocks ≡ changed_at change self.blocks i) }
+        ensures ok { IfOk result (λ new. new.blocks ≡ changed_at change.entry self.blocks i) }
         ensures err { IfErr result (λ old. old.blocks ≡ self.blocks) }
     {
-        let (mut link, mut change) = (self, change);
-        match link.change_at(i, &mut change) {
+        let mut link = self;
+        match link.change_at(i, change) {
             Ok(()) => Ok(link),
             Err(_) => Err(link),
         }
     }
 
-    // Changes the block that has a place. The change is given by reference, so that no level copies it; it is used up.
+    // Changes the block that has a place.
     #[cycle(change_at)]
-    fn change_at(&mut self, i: u64, change: &mut Change) -> Result<(), AllocError>
+    fn change_at(&mut self, i: u64, change: Change<'_>) -> Result<(), AllocError>
         requires place { i < length (entries_of self.old.blocks) }
-        requires may { IfSome (located self.old.blocks i) (λ p. MayChange change.old p.0) }
-        requires chars_fit { length (entries_of self.old.blocks) + gain change.old < 2 ^ 64 }
-        ensures ok { OnOk result (self.new.blocks ≡ changed_at change.old self.old.blocks i) }
+        requires may { IfSome (located self.old.blocks i) (λ p. MayChange change p.0) }
+        requires chars_fit { length (entries_of self.old.blocks) + gain change < 2 ^ 64 }
+        ensures ok { OnOk result (self.new.blocks ≡ changed_at change.entry self.old.blocks i) }
         ensures err { OnErr result (self.new.blocks ≡ self.old.blocks) }
-        ensures chars { length (entries_of self.new.blocks) ≤ length (entries_of self.old.blocks) + gain change.old }
+        ensures chars { length (entries_of self.new.blocks) ≤ length (entries_of self.old.blocks) + gain change.entry }
         ensures count { length self.new.blocks ≡ length self.old.blocks }
         ensures height { self.new.height ≡ self.old.height }
     {
@@ -47,13 +47,13 @@ impl Link {
 impl Node {
     // The same.
     #[cycle(change_at)]
-    fn change_at(&mut self, i: u64, change: &mut Change) -> Result<(), AllocError>
+    fn change_at(&mut self, i: u64, change: Change<'_>) -> Result<(), AllocError>
         requires place { i < length (entries_of self.old.blocks) }
-        requires may { IfSome (located self.old.blocks i) (λ p. MayChange change.old p.0) }
-        requires chars_fit { length (entries_of self.old.blocks) + gain change.old < 2 ^ 64 }
-        ensures ok { OnOk result (self.new.blocks ≡ changed_at change.old self.old.blocks i) }
+        requires may { IfSome (located self.old.blocks i) (λ p. MayChange change p.0) }
+        requires chars_fit { length (entries_of self.old.blocks) + gain change < 2 ^ 64 }
+        ensures ok { OnOk result (self.new.blocks ≡ changed_at change.entry self.old.blocks i) }
         ensures err { OnErr result (self.new.blocks ≡ self.old.blocks) }
-        ensures chars { length (entries_of self.new.blocks) ≤ length (entries_of self.old.blocks) + gain change.old }
+        ensures chars { length (entries_of self.new.blocks) ≤ length (entries_of self.old.blocks) + gain change.entry }
         ensures count { length self.new.blocks ≡ length self.old.blocks }
         ensures height { self.new.height ≡ self.old.height }
     {

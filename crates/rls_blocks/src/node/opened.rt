@@ -59,6 +59,8 @@ impl Opened {
 
     // A node taken apart.
     pub(super) fn of(mut node: Box<Node>) -> Opened
+        ensures left { result.left ≡ node.value.left }
+        ensures own { result.own ≡ node.value.block }
         ensures blocks { node.value.blocks ≡ result.left.blocks ++ result.own ∷ result.right.blocks }
         ensures chars { length (entries_of node.value.blocks) ≡ result.front + length result.own.1 + result.behind }
         ensures chars_fit { length (entries_of node.value.blocks) < 2 ^ 64 }

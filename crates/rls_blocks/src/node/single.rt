@@ -1,11 +1,11 @@
 //! Nodes that stand alone.
 
-ghost use Rattle.std.specs.Prelude.{◌≡◌, ◌+◌, ◌-◌, ◌<◌, ◌≤◌, pos, length, IfOk, OnOk, OnErr, IsTrue};
+ghost use Rattle.std.specs.Prelude.{◌≡◌, ◌+◌, ◌-◌, ◌<◌, ◌≤◌, pos, [], ◌∷◌, length, IfOk, OnOk, OnErr, IsTrue};
 ghost use Rattle.rls_ident.specs.Identifiers.{shifted};
-ghost use Rattle.rls_blocks.specs.Trees.{IsPiece};
+ghost use Rattle.rls_blocks.specs.Trees.{IsPiece, entries_of};
 ghost use Rattle.rls_blocks.specs.Edits.{part_of, grown, may_grow};
 
-use super::Node;
+use super::{Link, Node};
 use crate::block::Block;
 use crate::side::Side;
 use rls_ident::rely;
@@ -40,6 +40,15 @@ impl Single {
         Ok(Single { node })
     }
 
+    /// The tree of its block alone.
+    pub(crate) fn alone(self) -> Link
+        ensures blocks { result.blocks ≡ self ∷ [] }
+        ensures chars { length (entries_of result.blocks) ≡ length self.1 }
+        ensures height { result.height ≡ 1 }
+    {
+        Link::to(self.node)
+    }
+
     /// The run of its block.
     pub(crate) fn run(&self) -> &Run
         ensures run { result.now ≡ self.now.0 }
@@ -66,10 +75,10 @@ impl Single {
     }
 
     /// The block grows on a side by a run with which it touches there. It costs the run's characters.
-    pub(crate) fn grow(&mut self, side: Side, run: &Run, text: Text) -> Result<(), AllocError>
-        requires as_many { length text ≡ run.now.1 }
-        requires may { IsTrue (may_grow side (run.now, text) self.old) }
-        ensures ok { OnOk result (self.new ≡ grown side (run.now, text) self.old) }
+    pub(crate) fn grow(&mut self, side: Side, run: &Run, text: &Text) -> Result<(), AllocError>
+        requires as_many { length text.now ≡ run.now.1 }
+        requires may { IsTrue (may_grow side (run.now, text.now) self.old) }
+        ensures ok { OnOk result (self.new ≡ grown side (run.now, text.now) self.old) }
         ensures err { OnErr result (self.new ≡ self.old) }
     {
         let node: &mut Node = &mut self.node;

@@ -13,7 +13,7 @@ Node::change_at-change_at-done-requires t c =
     let bs = c.args.self.now.blocks in
     let is = sym (ap (λ n. n.blocks) c.self.view_is) in
     let n = chars_are s.left.blocks s.right.blocks bs s.block is v.own_is in
-    (omega (arith, ap length is, length-append s.left.blocks (s.block ∷ s.right.blocks)), (omega arith, (may_there c.args.change.now (there_front s.block s.left.blocks s.right.blocks bs c.args.i is v.left_are v.own_is (omega arith)) c.requires.may, omega (arith, n))))
+    (omega (arith, ap length is, length-append s.left.blocks (s.block ∷ s.right.blocks)), (omega arith, (may_there c.args.change (there_front s.block s.left.blocks s.right.blocks bs c.args.i is v.left_are v.own_is (omega arith)) c.requires.may, omega (arith, n))))
 
 pub Node::change_at-overflow_add-self : goal.Node::change_at-overflow_add-self
 Node::change_at-overflow_add-self t c =
@@ -49,7 +49,7 @@ Node::change_at-returns-then-i-self-clause-ok t c =
     let v = c.self.invariant in
     let bs = c.args.self.now.blocks in
     let is = sym (ap (λ n. n.blocks) c.self.view_is) in
-    on_ok_weaker c.change_at-done.result (changed_left c.args.change.now s.block s.left.blocks s.right.blocks bs c.args.i is v.left_are v.own_is c.change_at-done.new.self.blocks (omega arith)) c.change_at-done.ensures.ok
+    on_ok_weaker c.change_at-done.result (changed_left c.args.change s.block s.left.blocks s.right.blocks bs c.args.i is v.left_are v.own_is c.change_at-done.new.self.blocks (omega arith)) c.change_at-done.ensures.ok
 
 pub Node::change_at-returns-then-i-self-clause-chars : goal.Node::change_at-returns-then-i-self-clause-chars
 Node::change_at-returns-then-i-self-clause-chars t c =
@@ -68,7 +68,7 @@ Node::change_at-change-done-requires t c =
     let v = c.self.invariant in
     let bs = c.args.self.now.blocks in
     let is = sym (ap (λ n. n.blocks) c.self.view_is) in
-    record { may = may_there c.args.change.now (there_own s.block s.left.blocks s.right.blocks bs c.args.i is v.left_are v.own_is (c.args.i - s.front) (omega arith) (omega arith)) c.requires.may }
+    record { may = may_there c.args.change (there_own s.block s.left.blocks s.right.blocks bs c.args.i is v.left_are v.own_is (c.args.i - s.front) (omega arith) (omega arith)) c.requires.may }
 
 pub Node::change_at-overflow_add-self-then-i-self-2 : goal.Node::change_at-overflow_add-self-then-i-self-2
 Node::change_at-overflow_add-self-then-i-self-2 t c =
@@ -103,7 +103,7 @@ Node::change_at-returns-then-i-self-2-clause-ok t c =
     let v = c.self.invariant in
     let bs = c.args.self.now.blocks in
     let is = sym (ap (λ n. n.blocks) c.self.view_is) in
-    on_ok_weaker c.change-done.result (changed_own c.args.change.now s.block s.left.blocks s.right.blocks bs c.args.i is v.left_are v.own_is c.change-done.new.self (c.args.i - s.front) (omega arith) (omega arith)) c.change-done.ensures.ok
+    on_ok_weaker c.change-done.result (changed_own c.args.change s.block s.left.blocks s.right.blocks bs c.args.i is v.left_are v.own_is c.change-done.new.self (c.args.i - s.front) (omega arith) (omega arith)) c.change-done.ensures.ok
 
 pub Node::change_at-returns-then-i-self-2-clause-chars : goal.Node::change_at-returns-then-i-self-2-clause-chars
 Node::change_at-returns-then-i-self-2-clause-chars t c =
@@ -123,7 +123,7 @@ Node::change_at-change_at-done-requires-2 t c =
     let bs = c.args.self.now.blocks in
     let is = sym (ap (λ n. n.blocks) c.self.view_is) in
     let n = chars_are s.left.blocks s.right.blocks bs s.block is v.own_is in
-    (omega (arith, ap length is, length-append s.left.blocks (s.block ∷ s.right.blocks)), (omega (arith, n), (may_there c.args.change.now (there_behind s.block s.left.blocks s.right.blocks bs c.args.i is v.left_are v.own_is (c.args.i - s.end) (omega arith)) c.requires.may, omega (arith, n))))
+    (omega (arith, ap length is, length-append s.left.blocks (s.block ∷ s.right.blocks)), (omega (arith, n), (may_there c.args.change (there_behind s.block s.left.blocks s.right.blocks bs c.args.i is v.left_are v.own_is (c.args.i - s.end) (omega arith)) c.requires.may, omega (arith, n))))
 
 pub Node::change_at-overflow_add-self-2 : goal.Node::change_at-overflow_add-self-2
 Node::change_at-overflow_add-self-2 t c =
@@ -150,7 +150,7 @@ Node::change_at-returns-clause-ok t c =
     let v = c.self.invariant in
     let bs = c.args.self.now.blocks in
     let is = sym (ap (λ n. n.blocks) c.self.view_is) in
-    on_ok_weaker c.change_at-done-2.result (changed_right c.args.change.now s.block s.left.blocks s.right.blocks bs c.args.i is v.left_are v.own_is c.change_at-done-2.new.self.blocks (c.args.i - s.end) (omega arith)) c.change_at-done-2.ensures.ok
+    on_ok_weaker c.change_at-done-2.result (changed_right c.args.change s.block s.left.blocks s.right.blocks bs c.args.i is v.left_are v.own_is c.change_at-done-2.new.self.blocks (c.args.i - s.end) (omega arith)) c.change_at-done-2.ensures.ok
 
 pub Node::change_at-returns-clause-chars : goal.Node::change_at-returns-clause-chars
 Node::change_at-returns-clause-chars t c =

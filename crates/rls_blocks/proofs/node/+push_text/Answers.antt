@@ -11,9 +11,8 @@ Node::push_text-returns t c =
     let b = c.self.inside.block.1 in
     let r = chars_in (entries_of c.self.inside.right.blocks) in
     let all = node_chars c.self.inside.left.blocks c.self.inside.right.blocks c.self.inside.block c.args.self.now.blocks (ap (λ s. s.blocks) c.self.view_is) c.self.invariant.own_is in
-    let own = c.in_ok-copy.ensures.copy ∙ c.text.ensures.text in
     record {
       ok = c.in_ok-push_text-2.ensures.ok
-          ∙ ap (λ cs. cs ++ r) (c.in_ok-append.ensures.ok ∙ ap (λ cs. cs ++ c.in_ok-copy.field-0) c.in_ok-push_text.ensures.ok ∙ ap (λ cs. (old ++ l) ++ cs) own)
+          ∙ ap (λ cs. cs ++ r) (c.in_ok-append.ensures.ok ∙ ap (λ cs. cs ++ c.text.result.now) c.in_ok-push_text.ensures.ok ∙ ap (λ cs. (old ++ l) ++ cs) c.text.ensures.text)
           ∙ append_assoc (old ++ l) b r ∙ append_assoc old l (b ++ r) ∙ ap (λ cs. old ++ cs) (sym all);
     }

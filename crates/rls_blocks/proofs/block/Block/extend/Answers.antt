@@ -13,4 +13,4 @@ lengthen-requires c =
 pub returns-clause-ok : goal.returns-clause-ok
 returns-clause-ok c =
     let b = c.args.self.now in
-    on_ok_weaker c.lengthen.result (λ e. e ∙ ap (λ k. ((b.0.0, b.0.1 + k), b.1 ++ c.args.text)) c.requires.as_many) c.lengthen.ensures.ok
+    on_ok_weaker c.lengthen.result (λ e. e ∙ ap (λ k. ((b.0.0, b.0.1 + k), b.1 ++ c.args.text.now)) c.requires.as_many) c.lengthen.ensures.ok

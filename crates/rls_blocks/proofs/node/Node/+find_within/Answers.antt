@@ -12,9 +12,8 @@ use Rattle.rls_blocks.proofs.node.Node.+find_within.Goals as goal
 
 pub find_from-found-requires : goal.find_from-found-requires
 find_from-found-requires t c =
-    let s = c.self.inside in
     let r = c.requires in
-    let begins = own_begins s.left.blocks s.right.blocks s.block c.args.self.now.blocks c.args.id.now (ap (λ v. v.blocks) c.self.view_is) c.self.invariant.own_is c.args.low c.args.high c.min.result (omega (arith, c.min.ensures)) (omega (arith, c.min.ensures)) r.low r.high in
+    let begins = own_begins _ _ _ _ c.args.id.now (ap (λ v. v.blocks) c.self.view_is) c.self.invariant.own_is c.args.low c.args.high c.min.result (omega (arith, c.min.ensures)) (omega (arith, c.min.ensures)) r.low r.high in
     record { from = ap (λ q. take c.min.result q.0) c.run.ensures.run ∙ begins }
 
 pub overflow_add-result : goal.overflow_add-result
@@ -25,15 +24,13 @@ overflow_add-result t c =
 
 pub returns-in-Ok : goal.returns-in-Ok
 returns-in-Ok t c =
-    let s = c.self.inside in
     let found = sym c.in-Ok.is ∙ c.find_from-found.ensures.find ∙ ap (λ q. find_ident (run_idents q.0 q.1) c.args.id.now) c.run.ensures.run in
-    record { find = ap (λ i. Ok (i + c.in-Ok.place)) c.self.invariant.front_is ∙ in_own s.left.blocks s.right.blocks s.block c.args.self.now.blocks c.args.id.now (ap (λ v. v.blocks) c.self.view_is) c.self.invariant.left_are c.self.invariant.own_is c.requires.rises c.in-Ok.place found }
+    record { find = ap (λ i. Ok (i + c.in-Ok.place)) c.self.invariant.front_is ∙ in_own _ _ _ _ c.args.id.now (ap (λ v. v.blocks) c.self.view_is) c.self.invariant.left_are c.self.invariant.own_is c.requires.rises c.in-Ok.place found }
 
 pub returns-in_default : goal.returns-in_default
 returns-in_default t c =
-    let s = c.self.inside in
     let found = sym c.in-Err.is ∙ c.find_from-found.ensures.find ∙ ap (λ q. find_ident (run_idents q.0 q.1) c.args.id.now) c.run.ensures.run in
-    record { find = ap (λ k. find_ident (idents_of (runs_in k.blocks)) c.args.id.now) (sym c.in_default.ensures.empty) ∙ before_own s.left.blocks s.right.blocks s.block c.args.self.now.blocks c.args.id.now (ap (λ v. v.blocks) c.self.view_is) c.self.invariant.left_are c.self.invariant.own_is c.requires.rises (ap (λ i. Err i) (sym c.if-below-eq0.true) ∙ found) }
+    record { find = ap (λ k. find_ident (idents_of (runs_in k.blocks)) c.args.id.now) (sym c.in_default.ensures.empty) ∙ before_own _ _ _ _ c.args.id.now (ap (λ v. v.blocks) c.self.view_is) c.self.invariant.left_are c.self.invariant.own_is c.requires.rises (ap (λ i. Err i) (sym c.if-below-eq0.true) ∙ found) }
 
 pub find_within-requires : goal.find_within-requires
 find_within-requires t c =
@@ -42,22 +39,20 @@ find_within-requires t c =
 
 pub returns-then-below-eq0 : goal.returns-then-below-eq0
 returns-then-below-eq0 t c =
-    let s = c.self.inside in
     let found = sym c.in-Err.is ∙ c.find_from-found.ensures.find ∙ ap (λ q. find_ident (run_idents q.0 q.1) c.args.id.now) c.run.ensures.run in
-    record { find = c.find_within.ensures.find ∙ ap (λ bs. find_ident (idents_of (runs_in bs)) c.args.id.now) c.in-Some.ensures.blocks ∙ before_own s.left.blocks s.right.blocks s.block c.args.self.now.blocks c.args.id.now (ap (λ v. v.blocks) c.self.view_is) c.self.invariant.left_are c.self.invariant.own_is c.requires.rises (ap (λ i. Err i) (sym c.if-below-eq0.true) ∙ found) }
+    record { find = c.find_within.ensures.find ∙ ap (λ bs. find_ident (idents_of (runs_in bs)) c.args.id.now) c.in-Some.ensures.blocks ∙ before_own _ _ _ _ c.args.id.now (ap (λ v. v.blocks) c.self.view_is) c.self.invariant.left_are c.self.invariant.own_is c.requires.rises (ap (λ i. Err i) (sym c.if-below-eq0.true) ∙ found) }
 
 pub returns-then-below-len : goal.returns-then-below-len
 returns-then-below-len t c =
-    let s = c.self.inside in
     let found = sym c.in-Err.is ∙ c.find_from-found.ensures.find ∙ ap (λ q. find_ident (run_idents q.0 q.1) c.args.id.now) c.run.ensures.run in
-    record { find = ap (λ i. Err (i + c.in-Err.below)) c.self.invariant.front_is ∙ within_own s.left.blocks s.right.blocks s.block c.args.self.now.blocks c.args.id.now (ap (λ v. v.blocks) c.self.view_is) c.self.invariant.left_are c.self.invariant.own_is c.requires.rises c.in-Err.below found (omega arith) (omega arith) }
+    record { find = ap (λ i. Err (i + c.in-Err.below)) c.self.invariant.front_is ∙ within_own _ _ _ _ c.args.id.now (ap (λ v. v.blocks) c.self.view_is) c.self.invariant.left_are c.self.invariant.own_is c.requires.rises c.in-Err.below found (omega arith) (omega arith) }
 
 pub returns-in_default-node : goal.returns-in_default-node
 returns-in_default-node t c =
     let s = c.self.inside in
     let found = sym c.in-Err.is ∙ c.find_from-found.ensures.find ∙ ap (λ q. find_ident (run_idents q.0 q.1) c.args.id.now) c.run.ensures.run in
     let none = ap (λ k. moved (length (entries_of s.left.blocks) + length s.block.1) (find_ident (idents_of (runs_in k.blocks)) c.args.id.now)) (sym c.in_default-node.ensures.empty) in
-    record { find = ap (λ i. Err i) (omega arith) ∙ none ∙ after_own s.left.blocks s.right.blocks s.block c.args.self.now.blocks c.args.id.now (ap (λ v. v.blocks) c.self.view_is) c.self.invariant.left_are c.self.invariant.own_is c.requires.rises c.in-Err.below found (omega arith) }
+    record { find = ap (λ i. Err i) (omega arith) ∙ none ∙ after_own _ _ _ _ c.args.id.now (ap (λ v. v.blocks) c.self.view_is) c.self.invariant.left_are c.self.invariant.own_is c.requires.rises c.in-Err.below found (omega arith) }
 
 pub find_within-requires-2 : goal.find_within-requires-2
 find_within-requires-2 t c =
@@ -76,14 +71,12 @@ overflow_add-result-in-Err-find_within t c =
 
 pub returns-in-Ok-find_within : goal.returns-in-Ok-find_within
 returns-in-Ok-find_within t c =
-    let s = c.self.inside in
     let own = sym c.in-Err.is ∙ c.find_from-found.ensures.find ∙ ap (λ q. find_ident (run_idents q.0 q.1) c.args.id.now) c.run.ensures.run in
     let found = c.in-Ok-find_within.ensures.find ∙ ap (λ bs. find_ident (idents_of (runs_in bs)) c.args.id.now) c.in-Some-node.ensures.blocks in
-    record { find = ap (λ i. Ok (i + c.in-Ok-find_within.place)) (omega arith) ∙ after_found s.left.blocks s.right.blocks s.block c.args.self.now.blocks c.args.id.now (ap (λ v. v.blocks) c.self.view_is) c.self.invariant.left_are c.self.invariant.own_is c.requires.rises (Ok c.in-Ok-find_within.place) found c.in-Err.below own (omega arith) }
+    record { find = ap (λ i. Ok (i + c.in-Ok-find_within.place)) (omega arith) ∙ after_found _ _ _ _ c.args.id.now (ap (λ v. v.blocks) c.self.view_is) c.self.invariant.left_are c.self.invariant.own_is c.requires.rises (Ok c.in-Ok-find_within.place) found c.in-Err.below own (omega arith) }
 
 pub returns-in-Err-find_within : goal.returns-in-Err-find_within
 returns-in-Err-find_within t c =
-    let s = c.self.inside in
     let own = sym c.in-Err.is ∙ c.find_from-found.ensures.find ∙ ap (λ q. find_ident (run_idents q.0 q.1) c.args.id.now) c.run.ensures.run in
     let found = c.in-Err-find_within.ensures.find ∙ ap (λ bs. find_ident (idents_of (runs_in bs)) c.args.id.now) c.in-Some-node.ensures.blocks in
-    record { find = ap (λ i. Err (i + c.in-Err-find_within.below)) (omega arith) ∙ after_found s.left.blocks s.right.blocks s.block c.args.self.now.blocks c.args.id.now (ap (λ v. v.blocks) c.self.view_is) c.self.invariant.left_are c.self.invariant.own_is c.requires.rises (Err c.in-Err-find_within.below) found c.in-Err.below own (omega arith) }
+    record { find = ap (λ i. Err (i + c.in-Err-find_within.below)) (omega arith) ∙ after_found _ _ _ _ c.args.id.now (ap (λ v. v.blocks) c.self.view_is) c.self.invariant.left_are c.self.invariant.own_is c.requires.rises (Err c.in-Err-find_within.below) found c.in-Err.below own (omega arith) }
