@@ -6,6 +6,7 @@ use Rattle.rls_model.specs.declared.parts.Stem.{Stem}
 use Rattle.rls_model.specs.declared.parts.EpochPart.{EpochPart}
 use Rattle.rls_model.specs.declared.parts.TextRun.{TextRun}
 use Rattle.rls_model.specs.declared.parts.Parts.{Parts}
+pub use Rattle.rls_stems.specs.Own.{own_of}
 use Rattle.rls_parts.specs.Rules.{Broken}
 
 -- magic text, form, group, count of members and own number
@@ -16,10 +17,7 @@ head_bytes form group members me = concat (codes "RLSF" ∷ (form ∷ []) ∷ ei
 abbrev pub stem_bytes : ℕ → Stem → List ℕ
 stem_bytes form s = concat (four_bytes s.s0 ∷ (if form == 2 then [] else signed_bytes s.low) ∷ four_bytes s.next ∷ [])
 
--- the stems of a member, and those of all others
-abbrev pub own_of : ℕ → List Stem → List Stem
-own_of a stems = filter (λ s. s.author == a) stems
-
+-- the stems of all members but one
 abbrev pub others_of : ℕ → List Stem → List Stem
 others_of a stems = filter (λ s. not (s.author == a)) stems
 

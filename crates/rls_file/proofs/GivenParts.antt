@@ -4,21 +4,22 @@ use Rattle.std.specs.Prelude.{MatchBool, map, nat_le, nat_lt, ◌==◌, ◌&&◌
 use Rattle.rls_ident.specs.declared.limits.TheConstants.{MEMBERS}
 use Rattle.rls_ident.proofs.Members.{and_left, and_right, le_is, lt_is, eq_is}
 use Rattle.rls_ops.specs.declared.op.Op.{Op}
+use Rattle.rls_ops.specs.Rows.{HaveLength}
 use Rattle.rls_ops.specs.WellFormed.{IsSmall}
 use Rattle.rls_codec.specs.Spelled.{Chained, FitsVector, FitsBehind, IsSpelled}
 use Rattle.rls_codec.proofs.MessageFormats.{apart_from}
 use Rattle.rls_model.specs.declared.parts.EpochPart.{EpochPart}
 use Rattle.rls_model.specs.declared.parts.TextRun.{TextRun}
 use Rattle.rls_model.specs.declared.parts.Parts.{Parts}
-use Rattle.rls_parts.specs.Given.{HaveCounts, HaveParents, AreEpochParts, HaveTexts, AreMembersFrom, AreGiven}
+use Rattle.rls_parts.specs.Given.{HaveParents, AreEpochParts, HaveTexts, AreMembersFrom, AreGiven}
 use Rattle.rls_file.specs.ReadingFiles.{is_above, run_before}
 use Rattle.rls_file.specs.SpelledFiles.{FitLefts, FitsEpoch, FitsTextRun, IsSpelledSnapshot}
 
-have_counts : (members : ℕ) (before : Option (List ℕ)) (vs : List (List ℕ)) → Chained (λ b. FitsVector members) before vs → HaveCounts members vs
+have_counts : (members : ℕ) (before : Option (List ℕ)) (vs : List (List ℕ)) → Chained (λ b. FitsVector members) before vs → HaveLength members vs
 have_counts members before [] c = tt
 have_counts members before (v ∷ vs) c = (c.0.0, have_counts members (Some v) vs c.1)
 
-have_contexts : (members : ℕ) (before : Option Op) (os : List Op) → Chained (λ b. IsSpelled members) before os → HaveCounts members (map (λ o. o.context) os)
+have_contexts : (members : ℕ) (before : Option Op) (os : List Op) → Chained (λ b. IsSpelled members) before os → HaveLength members (map (λ o. o.context) os)
 have_contexts members before [] c = tt
 have_contexts members before (o ∷ os) c = (c.0.context.0, have_contexts members (Some o) os c.1)
 

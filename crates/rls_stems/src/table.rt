@@ -5,7 +5,7 @@ ghost use Rattle.rls_ident.specs.Between.{are_bounds, between, bound_tuples};
 ghost use Rattle.rls_ident.specs.Identifiers.{last_of, shifted, greatest_offset};
 ghost use Rattle.rls_ident.specs.Tuples.{at_spot, offset_of};
 ghost use Rattle.rls_ops.specs.Shapes.{body_len};
-ghost use Rattle.rls_model.specs.Editing.{own_stem, ends_below, begins_above, may_append, may_prepend, first_between};
+ghost use Rattle.rls_model.specs.Editing.{own_stem, ends_below, is_above, may_append, may_prepend, first_between};
 ghost use Rattle.rls_ident.specs.Lists.{IsIn};
 ghost use Rattle.rls_model.specs.declared.parts.Stem.{Stem as StemSeen};
 ghost use Rattle.rls_model.specs.Stems.{stands_before, stem_of, due_of, due_offset, is_due, ends_at_low, may_use, new_stem, with_stem, with_extended, stems_after, stems_after_insert};
@@ -343,7 +343,7 @@ fn ends_below(
 
 // Whether the left neighbour is less than the identifier, where there is one.
 fn begins_above(left: Option<&Neighbour<'_>>, id: &Ident) -> bool
-    ensures above { result ≡ begins_above (option_copied left.entry) id.now }
+    ensures above { result ≡ is_above (option_copied left.entry) id.now }
 {
     match left {
         None => true,

@@ -25,13 +25,12 @@ returns-then-not-is_applied c = record {
 pub returns : goal.returns
 returns c = record {
   read = λ H h.
-      let o = c.in_ok-op.op in
       let e = c.in_ok-replay.ensures in
       let same = after_members H c.args.replica.now c.members.result h c.members.ensures.members in
       let law = e.stands (alone H) h.stands in
       let next = ap applies (sym law.0) ∙ sym c.is_applied.ensures.applied ∙ c.if-not-is_applied.false in (
-        Then H (Accepted o),
-        op_applied H c.members.result c.args.bytes.now c.in_ok-op.rest.now o same c.in_ok-op.ensures.read next,
-        applied H c.args.replica.now c.replay.new.self o h e.after next (sym e.answer ∙ law.0) law.1,
+        Then H (Accepted c.in_ok-op.op),
+        op_applied _ _ _ _ _ same c.in_ok-op.ensures.read next,
+        applied _ _ _ _ h e.after next (sym e.answer ∙ law.0) law.1,
       );
 }

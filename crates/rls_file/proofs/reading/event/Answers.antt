@@ -39,13 +39,11 @@ returns-then-not-acknowledge c = record {
 pub returns : goal.returns
 returns c = record {
   read = λ H h.
-      let from = c.in_ok-from.from in
-      let vector = c.in_ok-from.vector in
       let same = after_members H c.args.replica.now c.members.result h c.members.ensures.members in
       let law = c.acknowledge.ensures.stands (alone H) h.stands in
       let counts = sym c.if-not-acknowledge.false ∙ law.0 in (
-        Then H (Acknowledged from vector),
-        noted_read H c.args.bytes.now c.in_ok-kind.rest.now c.in_ok-from.rest.now c.in_ok-kind.kind c.members.result from vector true c.in_ok-kind.ensures.read c.if-kind-eq0.false same c.in_ok-from.ensures.read counts,
-        counted H c.args.replica.now c.acknowledge.new.self from vector h c.acknowledge.ensures.after (sym counts) law.1,
+        Then H (Acknowledged c.in_ok-from.from c.in_ok-from.vector),
+        noted_read _ _ _ _ _ _ _ _ true c.in_ok-kind.ensures.read c.if-kind-eq0.false same c.in_ok-from.ensures.read counts,
+        counted _ _ _ _ _ h c.acknowledge.ensures.after (sym counts) law.1,
       );
 }

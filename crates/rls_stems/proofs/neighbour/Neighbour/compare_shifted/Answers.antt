@@ -4,14 +4,10 @@ use Rattle.rls_stems.proofs.Neighbours.{further, further_most, further_fits}
 use Rattle.rls_stems.proofs.neighbour.Neighbour.compare_shifted.Goals as goal
 
 pub overflow_add-self-inside : goal.overflow_add-self-inside
-overflow_add-self-inside c =
-    let f = further_fits c.self.inside.first.now c.args.self.now c.self.inside.by c.self.view_is c.args.by c.last-last.ensures.ident c.last-last.ensures.bounded c.requires.greatest in
-    omega (arith, f)
+overflow_add-self-inside c = omega (arith, further_fits _ _ _ c.self.view_is c.args.by c.last-last.ensures.ident c.last-last.ensures.bounded c.requires.greatest)
 
 pub compare_shifted-requires : goal.compare_shifted-requires
-compare_shifted-requires c =
-    record { greatest = further_most c.self.inside.first.now c.args.self.now c.self.inside.by c.self.view_is c.args.by c.last-last.ensures.ident c.requires.greatest }
+compare_shifted-requires c = record { greatest = further_most _ _ _ c.self.view_is c.args.by c.last-last.ensures.ident c.requires.greatest }
 
 pub returns : goal.returns
-returns c =
-    record { order = c.compare_shifted.ensures.order ∙ ap (λ x. ident_cmp x c.args.other.now) (further c.self.inside.first.now c.args.self.now c.self.inside.by c.self.view_is c.args.by) }
+returns c = record { order = c.compare_shifted.ensures.order ∙ ap (λ x. ident_cmp x c.args.other.now) (further _ _ _ c.self.view_is c.args.by) }

@@ -4,15 +4,10 @@ use Rattle.rls_stems.proofs.Neighbours.{further, further_most, further_fits}
 use Rattle.rls_stems.proofs.neighbour.Neighbour.shifted.Goals as goal
 
 pub overflow_add-self-inside : goal.overflow_add-self-inside
-overflow_add-self-inside c =
-    let f = further_fits c.self.inside.first.now c.args.self.now c.self.inside.by c.self.view_is c.args.by c.last-last.ensures.ident c.last-last.ensures.bounded c.requires.greatest in
-    omega (arith, f)
+overflow_add-self-inside c = omega (arith, further_fits _ _ _ c.self.view_is c.args.by c.last-last.ensures.ident c.last-last.ensures.bounded c.requires.greatest)
 
 pub shifted-requires : goal.shifted-requires
-shifted-requires c =
-    record { greatest = further_most c.self.inside.first.now c.args.self.now c.self.inside.by c.self.view_is c.args.by c.last-last.ensures.ident c.requires.greatest }
+shifted-requires c = record { greatest = further_most _ _ _ c.self.view_is c.args.by c.last-last.ensures.ident c.requires.greatest }
 
 pub returns : goal.returns
-returns c =
-    let f = further c.self.inside.first.now c.args.self.now c.self.inside.by c.self.view_is c.args.by in
-    record { shifted = IfOk-weaker c.shifted.result _ _ (λ x e. e ∙ f) c.shifted.ensures.shifted }
+returns c = record { shifted = IfOk-weaker c.shifted.result _ _ (λ x e. e ∙ further _ _ _ c.self.view_is c.args.by) c.shifted.ensures.shifted }
