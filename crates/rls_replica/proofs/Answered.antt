@@ -8,7 +8,7 @@ use Rattle.rls_ops.specs.declared.op.Op.{Op}
 use Rattle.rls_ops.specs.declared.op.Shape.{Shape}
 use Rattle.rls_ops.specs.Same.{op_eq}
 use Rattle.rls_ops.specs.Shapes.{shape_fault}
-use Rattle.rls_ops.specs.Waiting.{comes_before, is_in_order, waiting_under, without}
+use Rattle.rls_ops.specs.Waiting.{comes_before, first_ready_at, is_in_order, waiting_under, without}
 use Rattle.rls_ops.proofs.Equal.{op_is}
 use Rattle.rls_model.specs.Answers.{Reason, Answer, Repeats, Waits, Refuses, Own, Forked, Released}
 use Rattle.rls_model.specs.Receiving.{answer_beside, answer_by, verdict_of}
@@ -73,3 +73,8 @@ fits_is s a q e = let p = told s a q None e in subst (λ o. IsSomeAnd o (λ w. r
 pub members_holding : (s : Seen) (W : List Op) → members (holding s W) ≡ members s
 unfolding holding
 members_holding s W = refl
+
+-- where nothing waits nothing is released
+pub nothing_released : (s : Seen) → s.waiting ≡ [] → release_over s ≡ None
+unfolding release_over
+nothing_released s e = ap (λ (W : List Op). release_of s (first_ready_at (vector s) W)) e

@@ -1,7 +1,6 @@
 -- Courses of releases and of operations that are taken, as loops go through them.
 use Rattle.std.proofs.Common.{◌≡◌, ◌∙◌, ℕ, zero, suc, ◌+◌, ◌-◌, ◌^◌, ◌<◌, ◌≤◌, Bool, true, false, cond, List, [], ◌∷◌, ◌++◌, length, Option, Some, None, is_some, refl, sym, ap, subst, arith}
-use Rattle.std.specs.Prelude.{sum, reverse}
-use Rattle.std.proofs.lemmas.List.{reverse-append, length-append}
+use Rattle.std.specs.Prelude.{sum}
 use Rattle.rls_ident.proofs.Vectors.{sum-raise, sum-raise_le}
 use Rattle.rls_ident.proofs.Members.{bool_cases}
 use Rattle.rls_ops.specs.declared.op.Op.{Op}
@@ -16,6 +15,7 @@ use Rattle.rls_model.proofs.OneTree.{author_below}
 use Rattle.rls_seen.specs.Seen.{Seen, vector, members}
 use Rattle.rls_seen.specs.Over.{accepted, holding, after_answer, answer_over, received, refusal_over, first_ready, release_of, release_over, after_refusal, after_release, released, released_times, acknowledged, IsPartReleased}
 use Rattle.rls_model.specs.WellFormed.{AreOps}
+use Rattle.rls_model.specs.Machine.{with_receipt, with_reason}
 use Rattle.rls_seen.specs.Messages.{by_parts, Course, started, moved, with_release, receive_step, release_step, release_steps, with_releases, take_ops, taken_within, taken_over, taken_of}
 use Rattle.rls_seen.specs.Sane.{IsSane}
 use Rattle.rls_seen.proofs.Accepting.{acks_mine}
@@ -25,7 +25,7 @@ use Rattle.rls_seen.proofs.Sizes.{sum_small}
 use Rattle.rls_seen.proofs.Staying.{ready}
 use Rattle.rls_seen.proofs.Taking.{started_goes, ops_go}
 use Rattle.rls_seen.specs.Stands.{StandsFor}
-use Rattle.rls_replica.specs.Steps.{course, CountsReleased, AreFew, IsPartOfOps, steps_more, IsOnWay, with_receipt, with_reason}
+use Rattle.rls_replica.specs.Steps.{course, CountsReleased, AreFew, IsPartOfOps, steps_more, IsOnWay}
 use Rattle.rls_replica.proofs.Cut.{ops_part}
 
 -- ---- what is counted as released
@@ -218,21 +218,8 @@ received_few n t v o x e h = subst (AreFew (n + 1)) (sym e) (receipt_few n t o.a
 
 -- ---- all operations
 
-pub last_first : (xs ys : List Op) (o : Op) → xs ≡ ys ++ o ∷ [] → reverse xs ≡ o ∷ reverse ys
-last_first xs ys o e = ap reverse e ∙ reverse-append ys (o ∷ [])
-
-pub next_on_way : (s : Seen) (d : Course) (os xs ys : List Op) (o : Op) → xs ≡ ys ++ o ∷ [] → IsOnWay s os d (reverse xs) → IsOnWay s os d (o ∷ reverse ys)
-next_on_way s d os xs ys o e w = subst (λ (x : List Op). IsOnWay s os d x) (last_first xs ys o e) w
-
-pub none_left : (s r : Seen) (t : Taken) (os rest : List Op) → rest ≡ [] → IsOnWay s os (course r t) (reverse rest) → take_ops (started None s) os ≡ course r t
-none_left s r t os rest e w = (subst (λ (x : List Op). IsOnWay s os (course r t) (reverse x)) e w).1 None
-
-pub fewer_left : (n m : ℕ) (xs ys : List Op) (o : Op) → xs ≡ ys ++ o ∷ [] → n + length xs < m → n + 1 + length ys < m
-fewer_left n m xs ys o e l = omega (arith, ap length e, length-append ys (o ∷ []))
-
-pub empty_is : (xs : List Op) → length xs ≡ 0 → xs ≡ []
-empty_is [] e = refl
-empty_is (x ∷ xs) e = absurd (omega arith)
+pub none_left : (s r : Seen) (t : Taken) (os rest : List Op) → rest ≡ [] → IsOnWay s os (course r t) rest → take_ops (started None s) os ≡ course r t
+none_left s r t os rest e w = (subst (λ (x : List Op). IsOnWay s os (course r t) x) e w).1 None
 
 -- seen by a history
 pub ops_all_stands : (s u : Seen) (v : Taken) (t : State) (os : List Op) → AreOps os → take_ops (started None s) os ≡ course u v → StandsFor s t

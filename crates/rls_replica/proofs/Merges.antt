@@ -136,25 +136,6 @@ both_next xs ys i j n m more all h all' h' less less' = go (slice_get_cases xs i
         let b = less' j q.0 p.0 h' p.2 q.2 in
         ⊎_elim (λ l. let k = of_lt p.0 q.0 l in absurd (cc)) (λ s. ⊎_elim (λ e. p.2 ∙ (ap Some e ∙ sym q.2)) (λ l. let k = of_lt q.0 p.0 l in absurd (cc)) s) (tri tuples p.0 q.0)
 
--- identifiers of two runs that agree at one place agree further on
-pub go_on : (xs ys : List (List Tuple)) (i j p q n : ℕ) (a b : List Tuple) → slice_get xs i ≡ slice_get ys j → ((k : ℕ) → k < n → slice_get xs (i + k) ≡ Some (shifted (pos (p + k)) a)) → ((k : ℕ) → k < n → slice_get ys (j + k) ≡ Some (shifted (pos (q + k)) b))
-    → (k : ℕ) → k < n → slice_get xs (i + k) ≡ slice_get ys (j + k)
-go_on xs ys i j p q n a b same f g k l = f k l ∙ (ap Some (sym (further p a) ∙ (ap (shifted (pos k)) first ∙ further q b)) ∙ sym (g k l))
-  where
-    none : (m : ℕ) → m + 0 ≡ m
-    none m = omega arith
-
-    further : (r : ℕ) (x : List Tuple) → shifted (pos k) (shifted (pos r) x) ≡ shifted (pos (r + k)) x
-    further r x = shifted_shifted (pos k) (pos r) x ∙ ap (λ d. shifted d x) (omega (arith, ints))
-
-    some : 0 < n
-    some = omega (arith, l)
-
-    first : shifted (pos p) a ≡ shifted (pos q) b
-    first =
-        some_is (shifted (pos p) a) (shifted (pos q) b)
-        (ap (λ m. Some (shifted (pos m) a)) (sym (none p)) ∙ (sym (f 0 some) ∙ (ap (slice_get xs) (none i) ∙ (same ∙ (ap (slice_get ys) (sym (none j)) ∙ (g 0 some ∙ ap (λ m. Some (shifted (pos m) b)) (none q)))))))
-
 -- ---- what isn't in a list
 
 -- no identifier is less than itself, or than a lesser one

@@ -1,13 +1,7 @@
 -- What the code's answers to a release tell.
 use Rattle.std.specs.Prelude.{Option, Some, None}
-use Rattle.rls_model.specs.declared.receipt.Refusal.{Refusal}
 use Rattle.rls_model.specs.declared.receipt.Release.{Release}
-use Rattle.rls_model.specs.Answers.{Reason, reason_of, Released}
-
--- the reason, if there is one
-abbrev pub reason_in : Option Refusal → Option Reason
-reason_in None = None
-reason_in (Some r) = Some (reason_of r)
+use Rattle.rls_model.specs.Answers.{reason_in, Released}
 
 -- what was released, if anything was
 abbrev pub release_in : Option Release → Option Released

@@ -1,8 +1,7 @@
 -- Steps that are counted while a message is taken.
-use Rattle.std.specs.Prelude.{◌≡◌, ℕ, ◌+◌, ◌-◌, ◌^◌, ◌<◌, ◌≤◌, List, Some, None, sum}
+use Rattle.std.specs.Prelude.{◌≡◌, ℕ, ◌+◌, ◌≤◌, List, Some, None, sum}
 use Rattle.rls_ops.specs.declared.op.Op.{Op}
 use Rattle.rls_model.specs.declared.receipt.Taken.{Taken}
-pub use Rattle.rls_model.specs.Machine.{with_receipt, with_reason}
 use Rattle.rls_model.specs.Machine.{Limit}
 use Rattle.rls_seen.specs.Seen.{Seen, vector}
 use Rattle.rls_seen.specs.Messages.{Course, started, take_ops}
@@ -20,12 +19,6 @@ abbrev pub IsPartOfOps : Seen → List Op → Seen → Type 0
 IsPartOfOps old os new = (n : ℕ) × ((take_ops (started (Some n) old) os).limit ≡ Some 0) × (new ≡ (take_ops (started (Some n) old) os).state)
 
 -- ---- counting
-
--- one more of each may be counted
-pub record HasRoom (t : Taken) : Type 0 where
-  pub applied : t.applied < 2 ^ 64 - 1
-  pub repeated : t.repeated < 2 ^ 64 - 1
-  pub held : t.held < 2 ^ 64 - 1
 
 -- at most so many arrived
 pub record AreFew (n : ℕ) (t : Taken) : Type 0 where

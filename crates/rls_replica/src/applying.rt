@@ -1,6 +1,6 @@
 //! How an operation is accepted: first all that may want memory, of which the change of the text is the last step, and then the rest.
 
-ghost use Rattle.std.specs.Prelude.{◌≡◌, ◌+◌, ◌-◌, ◌<◌, ◌≤◌, ◌^◌, ◌++◌, ◌∷◌, [], pos, ◌+ℤ◌, ◌≤ℤ◌, IsSome, IfSome, IfOk, OnOk, OnErr, IsTrue, List, length, map, slice_index, zip, None, IsSomeAnd};
+ghost use Rattle.std.specs.Prelude.{◌≡◌, ◌+◌, ◌-◌, ◌<◌, ◌≤◌, ◌^◌, ◌++◌, ◌∷◌, [], pos, ◌+ℤ◌, ◌≤ℤ◌, IsSome, IfSome, IfOk, OnOk, OnErr, IsTrue, List, length, map, slice_index, zip, Some, None, IsSomeAnd};
 ghost use Rattle.rls_ident.specs.declared.limits.TheConstants.{IDENTIFIERS};
 ghost use Rattle.rls_ident.specs.Identifiers.{last_of};
 ghost use Rattle.rls_ident.specs.Tuples.{offset_of};
@@ -15,11 +15,16 @@ ghost use Rattle.rls_seen.specs.Over.{accepted, acks_after, epochs_after, first_
 ghost use Rattle.rls_seen.specs.Sane.{MayApply};
 ghost use Rattle.rls_epoch.specs.Seen.{former_sum};
 ghost use Rattle.rls_blocks.specs.Trees.{entries_of};
+ghost use Rattle.rls_ops.specs.Waiting.{without};
+ghost use Rattle.rls_replica.specs.declared.known.Known.{Known as KnownSeen};
+ghost use Rattle.rls_replica.specs.Known.{KeepsKnown};
 ghost use Rattle.rls_replica.specs.Changing.{former_in, renaming_in, MayPrepare, IsPlaceOf, IsTextAfter, MayFinish, GoesTo, MayInsert, MayRename};
 
-use crate::known::kept_known;
+use crate::known::{Known, kept_known};
+use crate::renaming_box::RenamingBox;
 use crate::renaming_text::RenamingText;
 use crate::replica::Replica;
+use rls_causal::Held;
 use rls_doc::Document;
 use rls_epoch::Epochs;
 use rls_ident::{EpochName, Ident, Vector, rely};
@@ -52,7 +57,7 @@ impl Replica {
             op,
             place,
         )?;
-        let _held = self.held.remove(op.author, op.seq);
+        forget(&mut self.held, op.author, op.seq);
         finish(
             &mut self.acks,
             &mut self.stems,
@@ -61,8 +66,13 @@ impl Replica {
             renaming,
         );
         keep_unstable(&mut self.log, count, op, self.acks.stable());
-        let known = self.known.take();
-        self.known = kept_known(self.alloc, known, &self.epochs, op, self.acks.stable());
+        keep_known(
+            self.alloc,
+            &mut self.known,
+            &self.epochs,
+            op,
+            self.acks.stable(),
+        );
         Ok(())
     }
 
@@ -97,10 +107,48 @@ impl Replica {
             renaming,
         );
         keep_unstable(&mut self.log, count, &op, self.acks.stable());
-        let known = self.known.take();
-        self.known = kept_known(self.alloc, known, &self.epochs, &op, self.acks.stable());
+        keep_known(
+            self.alloc,
+            &mut self.known,
+            &self.epochs,
+            &op,
+            self.acks.stable(),
+        );
         Ok(())
     }
+}
+
+// Takes out what waits under this number. Mostly nothing waits at all.
+fn forget(held: &mut Held, author: u32, seq: u32)
+    ensures others { held.new ≡ without author seq held.old }
+{
+    if held.len() == 0 {
+        return;
+    }
+    take_out(held, author, seq);
+}
+
+fn take_out(held: &mut Held, author: u32, seq: u32)
+    ensures others { held.new ≡ without author seq held.old }
+{
+    let _op = held.remove(author, seq);
+}
+
+// Keeps of what is remembered what holds after an operation was accepted. Mostly nothing is remembered.
+fn keep_known(alloc: Global, known: &mut Option<Known>, epochs: &Epochs, op: &Op, stable: &Vector)
+    ensures kept { IfSome known.new (λ k. (was : KnownSeen) × (known.old ≡ Some was) × KeepsKnown epochs.now.epochs stable.now op.now op.now.body was k) }
+{
+    if known.is_none() {
+        return;
+    }
+    pass_known(alloc, known, epochs, op, stable);
+}
+
+fn pass_known(alloc: Global, known: &mut Option<Known>, epochs: &Epochs, op: &Op, stable: &Vector)
+    ensures kept { IfSome known.new (λ k. (was : KnownSeen) × (known.old ≡ Some was) × KeepsKnown epochs.now.epochs stable.now op.now op.now.body was k) }
+{
+    let was = known.take();
+    *known = kept_known(alloc, was, epochs, op, stable);
 }
 
 // Makes all the room that the operation needs, and the renaming of a rename, and changes the text last.
@@ -112,7 +160,7 @@ fn prepare(
     log: &mut Log,
     op: &Op,
     place: Option<u64>,
-) -> Result<Option<Renaming>, AllocError>
+) -> Result<Option<RenamingBox>, AllocError>
     requires may { MayPrepare epochs.old.epochs (entries_of document.old.blocks) op.now }
     requires place { IfSome place (λ i. IsPlaceOf epochs.old.epochs (entries_of document.old.blocks) op.now.epoch op.now.body i) }
     requires author { op.now.author < stems.old.members }
@@ -146,7 +194,7 @@ fn change(
     epochs: &mut Epochs,
     op: &Op,
     place: Option<u64>,
-) -> Result<Option<Renaming>, AllocError>
+) -> Result<Option<RenamingBox>, AllocError>
     requires may { MayPrepare epochs.old.epochs (entries_of document.old.blocks) op.now }
     requires place { IfSome place (λ i. IsPlaceOf epochs.old.epochs (entries_of document.old.blocks) op.now.epoch op.now.body i) }
     ensures renaming { IfOk result (λ renaming. renaming ≡ renaming_in op.now op.now.body) }
@@ -239,7 +287,7 @@ fn rename(
     epochs: &mut Epochs,
     op: &Op,
     former: &Runs,
-) -> Result<Renaming, AllocError>
+) -> Result<RenamingBox, AllocError>
     requires may { MayRename epochs.old.epochs op.now former.now }
     ensures renaming { IfOk result (λ renaming. renaming ≡ renaming_of op.now former.now) }
     ensures text { OnOk result (IsTextAfter epochs.old.epochs (entries_of document.old.blocks) op.now (Rename former.now) (entries_of document.new.blocks)) }
@@ -247,9 +295,9 @@ fn rename(
     ensures epochs { epochs.new.epochs ≡ epochs.old.epochs }
     ensures room { OnOk result (0 < epochs.new.spare) }
 {
-    let renaming = renaming_of(alloc, op, former)?;
+    let renaming = RenamingBox::new(alloc, renaming_of(alloc, op, former)?)?;
     epochs.reserve()?;
-    rename_text(document, epochs, op, &renaming)?;
+    rename_text(document, epochs, op, renaming.renaming())?;
     Ok(renaming)
 }
 
@@ -290,7 +338,7 @@ fn finish(
     stems: &mut StemTable,
     epochs: &mut Epochs,
     op: &Op,
-    renaming: Option<Renaming>,
+    renaming: Option<RenamingBox>,
 )
     requires may { MayFinish acks.old stems.old.stems epochs.old.epochs op.now }
     requires members { stems.old.members ≡ length acks.old.mine }
@@ -318,7 +366,7 @@ fn keep_unstable(log: &mut Log, count: usize, op: &Op, stable: &Vector)
 }
 
 // Adds the epoch of a rename.
-fn add_epoch(epochs: &mut Epochs, op: &Op, renaming: Option<Renaming>)
+fn add_epoch(epochs: &mut Epochs, op: &Op, renaming: Option<RenamingBox>)
     requires may { IsSome renaming → MayRename epochs.old.epochs op.now (former_in op.now.body) }
     requires total { IsSome renaming → former_sum epochs.old.epochs.nodes + length (former_in op.now.body) < 2 ^ 64 }
     requires renaming { renaming ≡ renaming_in op.now op.now.body }
@@ -328,7 +376,7 @@ fn add_epoch(epochs: &mut Epochs, op: &Op, renaming: Option<Renaming>)
     let Some(renaming) = renaming else {
         return;
     };
-    epochs.add(op.author, op.seq, op.epoch, renaming);
+    epochs.add(op.author, op.seq, op.epoch, renaming.into_renaming());
 }
 
 // Counts the operation in its author's row, and marks the author of a leave.

@@ -65,6 +65,35 @@ impl Replica {
         }
     }
 
+    /// Performs an edit as `edit` does, and takes it: the text of an insertion is moved into its operation, and isn't copied. After an error
+    /// the replica is as before, and the edit is given up.
+    ///
+    /// # Errors
+    ///
+    /// The first fault of the edit, in the order of `EditError`; or `OutOfMemory`, which may be answered to any edit.
+    pub fn perform(&mut self, edit: Edit) -> Result<u32, EditError>
+        ensures fault { IfErr result (λ e. IsFault e (edit_fault_over self.old edit)) }
+        ensures fits { OnOk result (edit_fault_over self.old edit ≡ None) }
+        ensures seq { IfOk result (λ n. n ≡ own_count self.old + 1) }
+        ensures after { OnOk result (self.new ≡ edited self.old edit) }
+        ensures err { OnErr result (self.new ≡ self.old) }
+        ensures names { KeepsNames self.old self.new }
+    {
+        rely!(self.sane());
+        rely!(edit.fits());
+        self.check(&edit)?;
+        let place = place_of(&edit);
+        // As `op_of`, but the operation isn't moved once more.
+        let Ok(op) = self.make(edit) else {
+            return Err(EditError::OutOfMemory);
+        };
+        check_size(&op)?;
+        match self.apply(&op, place) {
+            Ok(()) => Ok(op.seq),
+            Err(_) => Err(EditError::OutOfMemory),
+        }
+    }
+
     /// Accepts the operation that `made` has given for an edit here, and answers its number: `edit` is `made` and then this. So whoever
     /// records an edit looks at its operation before, and nobody makes it twice. After an error the replica is as before. It costs as much
     /// as accepting the operation.
@@ -137,6 +166,19 @@ impl Replica {
         ensures op { IfOk result (λ o. o ≡ made_over self.now edit.now) }
     {
         self.check(edit)?;
+        match copy_of(edit) {
+            Err(_) => Err(EditError::OutOfMemory),
+            Ok(edit) => self.op_of(edit),
+        }
+    }
+
+    // The operation of an edit that has no early fault, which has the edit's text itself.
+    fn op_of(&self, edit: Edit) -> Result<Op, EditError>
+        requires fits { early_fault self.now edit ≡ None }
+        ensures fault { IfErr result (λ e. IsFault e (edit_fault_over self.now edit)) }
+        ensures fits { OnOk result (edit_fault_over self.now edit ≡ None) }
+        ensures op { IfOk result (λ o. o ≡ made_over self.now edit) }
+    {
         match self.make(edit) {
             Err(_) => Err(EditError::OutOfMemory),
             Ok(op) => {
@@ -168,9 +210,9 @@ impl Replica {
     }
 
     #[tactic(auto, unfolding(rls_seen::specs::Edits::made_over))]
-    fn make(&self, edit: &Edit) -> Result<Op, AllocError>
-        requires fits { early_fault self.now edit.now ≡ None }
-        ensures op { IfOk result (λ o. o ≡ made_over self.now edit.now) }
+    fn make(&self, edit: Edit) -> Result<Op, AllocError>
+        requires fits { early_fault self.now edit ≡ None }
+        ensures op { IfOk result (λ o. o ≡ made_over self.now edit) }
     {
         Ok(Op {
             author: self.me(),
@@ -181,17 +223,17 @@ impl Replica {
         })
     }
 
-    fn make_body(&self, edit: &Edit) -> Result<Body, AllocError>
-        requires fits { early_fault self.now edit.now ≡ None }
-        ensures body { IfOk result (λ b. b ≡ made_body self.now edit.now) }
+    fn make_body(&self, edit: Edit) -> Result<Body, AllocError>
+        requires fits { early_fault self.now edit ≡ None }
+        ensures body { IfOk result (λ b. b ≡ made_body self.now edit) }
     {
         match edit {
             Edit::Insert { at, text } => Ok(Body::Insert {
-                first: self.first_at(*at, text.len())?,
-                text: text.copy()?,
+                first: self.first_at(at, text.len())?,
+                text,
             }),
             Edit::Delete { at, count } => Ok(Body::Delete {
-                targets: self.document.runs_of(*at, *count)?,
+                targets: self.document.runs_of(at, count)?,
             }),
             Edit::Rename => Ok(Body::Rename {
                 former: self.document.runs_of(0, self.total())?,
@@ -220,6 +262,24 @@ impl Replica {
             right.as_ref(),
             count,
         )
+    }
+}
+
+// The same edit again.
+fn copy_of(edit: &Edit) -> Result<Edit, AllocError>
+    ensures copy { IfOk result (λ copy. copy ≡ edit.now) }
+{
+    match edit {
+        Edit::Insert { at, text } => Ok(Edit::Insert {
+            at: *at,
+            text: text.copy()?,
+        }),
+        Edit::Delete { at, count } => Ok(Edit::Delete {
+            at: *at,
+            count: *count,
+        }),
+        Edit::Rename => Ok(Edit::Rename),
+        Edit::Leave => Ok(Edit::Leave),
     }
 }
 

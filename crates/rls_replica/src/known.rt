@@ -13,7 +13,7 @@ ghost use Rattle.rls_replica.specs.Unions.{Stands};
 
 use crate::gone::add;
 use crate::replica::Replica;
-use crate::uniting::{below, common, put_part};
+use crate::uniting::{below, put_part};
 use rls_epoch::Epochs;
 use rls_ident::{EpochName, Ident, Vector, rely};
 use rls_model::Refusal;
@@ -277,7 +277,7 @@ fn shared_from(list: &Runs, first: &Ident, ids: &Runs, at: u64) -> u64
 {
     rely!(let _total = list.total());
     match list.find(first) {
-        Ok(i) => common(ids, at, list, i),
+        Ok(i) => ids.count_common(at, list, i),
         Err(_) => 0,
     }
 }

@@ -12,12 +12,11 @@ ghost use Rattle.rls_ops.specs.declared.op.Op.{Op as OpSeen};
 ghost use Rattle.rls_ops.specs.Rows.{is_covered};
 ghost use Rattle.rls_ops.specs.Shapes.{shape_fault};
 ghost use Rattle.rls_ops.specs.Waiting.{waiting_under};
-ghost use Rattle.rls_model.specs.Answers.{answer_of, Waits, Refuses, Forked, WrongStem, UnknownTarget};
+ghost use Rattle.rls_model.specs.Answers.{answer_of, reason_in, Waits, Refuses, Forked, WrongStem, UnknownTarget};
 ghost use Rattle.rls_model.specs.Receiving.{verdict_of, answer_beside, answer_by};
 ghost use Rattle.rls_model.specs.Stems.{may_use, due_offset};
 ghost use Rattle.rls_seen.specs.Seen.{members, vector, count_over, greatest_over, stable_over, translate_over};
 ghost use Rattle.rls_seen.specs.Over.{first_unknown_over, body_refusal_over, refusal_over, answer_over};
-ghost use Rattle.rls_replica.specs.Releases.{reason_in};
 ghost use Rattle.rls_replica.specs.Lookups.{unknown_in, is_named_by, is_named_over};
 
 use crate::replica::Replica;

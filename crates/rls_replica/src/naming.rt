@@ -14,7 +14,6 @@ ghost use Rattle.rls_replica.specs.Lookups.{is_named_by, is_named_over};
 
 use crate::hints::{Hint, Hints, Namings, note};
 use crate::replica::Replica;
-use crate::uniting::common;
 use rls_ident::{EpochName, Ident, Spot, rely};
 use rls_log::OpKind;
 use rls_ops::{Body, Op, covers};
@@ -280,7 +279,7 @@ impl Replica {
         let there = self.epochs.translate_runs(epoch, op.epoch, ids)?;
         let first = there.get(0)?;
         match targets.find(&first) {
-            Ok(i) => Ok(common(&there, 0, targets, i)),
+            Ok(i) => Ok(there.count_common(0, targets, i)),
             Err(_) => Ok(0),
         }
     }

@@ -1,6 +1,6 @@
 //! What becomes of operations that arrive or wait.
 
-ghost use Rattle.std.specs.Prelude.{◌≡◌, ◌⊎◌, false, true, Some, None, IfOk, OnOk, OnErr, is_some};
+ghost use Rattle.std.specs.Prelude.{◌≡◌, ◌⊎◌, [], false, true, Some, None, IfOk, OnOk, OnErr, IsTrue, is_some};
 ghost use Rattle.rls_ops.specs.Waiting.{waiting_under, with_waiting, without};
 ghost use Rattle.rls_model.specs.Answers.{answer_of};
 ghost use Rattle.rls_model.specs.Receiving.{State, receive, receive_after, replay, replay_after, release, release_after};
@@ -113,6 +113,9 @@ impl Replica {
         ensures after { OnOk result (self.new ≡ released self.old) }
         ensures err { OnErr result (self.new ≡ self.old) }
     {
+        if self.none_waits() {
+            return Ok(None);
+        }
         self.note_gone();
         self.learn_ready()?;
         let Some(release) = self.look_ready()? else {
@@ -141,6 +144,13 @@ impl Replica {
                 }))
             }
         }
+    }
+
+    // Whether no operation waits.
+    pub(crate) fn none_waits(&self) -> bool
+        ensures none { IsTrue result → self.now.waiting ≡ [] }
+    {
+        self.held.len() == 0
     }
 
     // Learns where the targets of the first ready operation are now.

@@ -14,6 +14,7 @@ ghost use Rattle.rls_blocks.specs.Trees.{entries_of};
 ghost use Rattle.rls_parts.specs.Given.{AreGiven, AreRanged, HaveTexts};
 ghost use Rattle.rls_parts.specs.Restored.{entries_of as entries_in, seen_of};
 ghost use Rattle.rls_parts.specs.Rules.{broken};
+ghost use Rattle.rls_rules.specs.Whole.{IsMade};
 ghost use Rattle.rls_replica.specs.Fitting.{HaveFormer, AreFit};
 
 use crate::replica::Replica;
@@ -43,12 +44,28 @@ impl Replica {
         // For every history and waiting operations of which these are the parts.
         ensures stands { IfOk result (λ r. (t : State) → IsLegal t.history → parts_of t ≡ parts → StandsFor r t) }
     {
+        let tested = test_all(alloc, &parts)?;
+        let replica = Replica::from_tested(alloc, parts, tested)?;
+        Ok(replica)
+    }
+
+    /// The replica that has these parts, which break no rule: this was made of them where they were tested. Its text is made a tree in
+    /// one pass.
+    pub fn from_tested(alloc: Global, parts: Parts, tested: Tested) -> Result<Replica, AllocError>
+        requires given { AreGiven parts }
+        requires made { IsMade parts tested }
+        ensures replica { IfOk result (λ r. r ≡ seen_of parts) }
+        ensures back { IfOk result (λ r. parts_over r ≡ parts) }
+
+        // For every history and waiting operations of which these are the parts.
+        ensures stands { IfOk result (λ r. (t : State) → IsLegal t.history → parts_of t ≡ parts → StandsFor r t) }
+    {
         rely!(fit(&parts));
         let Tested {
             acks,
             stems,
             epochs,
-        } = test_all(alloc, &parts)?;
+        } = tested;
         let Parts {
             group,
             text,

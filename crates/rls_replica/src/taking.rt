@@ -1,27 +1,26 @@
 //! Messages, sent and taken.
 
-ghost use Rattle.std.specs.Prelude.{◌≡◌, ◌+◌, ◌-◌, ◌^◌, ◌<◌, ◌≤◌, ◌↔◌, ◌∷◌, [], List, ℕ, length, Some, None, is_some, IfOk, OnOk, OnErr, IsErrOf};
+ghost use Rattle.std.specs.Prelude.{◌≡◌, ◌+◌, ◌<◌, ◌≤◌, ◌↔◌, ◌∷◌, [], List, ℕ, length, Some, None, is_some, IfOk, OnOk, OnErr, IsErrOf};
 ghost use Rattle.rls_ops.specs.declared.op.Op.{Op};
 ghost use Rattle.rls_ident.specs.Vectors.{join};
 ghost use Rattle.rls_ops.specs.Rows.{row_of, stable_of};
-ghost use Rattle.rls_model.specs.Answers.{answer_of};
+ghost use Rattle.rls_model.specs.Machine.{HasRoom};
 ghost use Rattle.rls_model.specs.Receiving.{State, release_all};
 ghost use Rattle.rls_model.specs.Taking.{message_for, take_message, take_within, taken};
 ghost use Rattle.rls_model.specs.Taking as model;
 ghost use Rattle.rls_seen.specs.Seen.{Seen, members};
 ghost use Rattle.rls_seen.specs.Over.{release_over, released, released_all, IsPartReleased};
 ghost use Rattle.rls_seen.specs.Sane.{IsSane};
-ghost use Rattle.rls_replica.specs.Releases.{reason_in};
 ghost use Rattle.rls_seen.specs.Messages.{message_over, release_step, with_releases, started, take_ops, taken_over, taken_of, IsPartTaken};
 ghost use Rattle.rls_seen.specs.Stands.{StandsFor};
-ghost use Rattle.rls_replica.specs.Steps.{course, CountsReleased, IsPartOfOps, HasRoom, AreFew, IsOnWay, with_receipt, with_reason};
+ghost use Rattle.rls_replica.specs.Steps.{course, CountsReleased, IsPartOfOps, AreFew, IsOnWay};
 ghost use Rattle.rls_replica.specs.Names.{KeepsNames};
 ghost use Rattle.rls_replica.specs.Faults.{IsForeign};
 
 use crate::replica::Replica;
 use rls_ident::limits::INPUT_BYTES;
 use rls_ident::{Vector, rely};
-use rls_model::{Receipt, Release, Taken};
+use rls_model::Taken;
 use rls_ops::size::head_len;
 use rls_ops::{Message, Op, Ops};
 use std::alloc::{AllocError, Global};
@@ -80,6 +79,9 @@ impl Replica {
         // For every history and waiting operations that the replica stands for.
         ensures stands { OnOk result ((t : State) → StandsFor self.old t → StandsFor self.new (release_all t)) }
     {
+        if self.none_waits() {
+            return Ok(());
+        }
         'releases: while self.release_one(taken)? {}
         Ok(())
     }
@@ -99,7 +101,7 @@ impl Replica {
         match self.release()? {
             None => Ok(false),
             Some(release) => {
-                count_release(release, taken)?;
+                taken.count_release(release)?;
                 Ok(true)
             }
         }
@@ -118,7 +120,7 @@ impl Replica {
         let (author, seq) = (op.author, op.seq);
         let receipt = self.receive(op)?;
         rely!(self.sane());
-        count_receipt(author, seq, receipt, taken)?;
+        taken.count_receipt(author, seq, receipt)?;
         self.release_all(taken)?;
         Ok(())
     }
@@ -136,9 +138,8 @@ impl Replica {
     {
         rely!(ops.fits());
         let mut taken = Taken::new(self.alloc);
-        let mut rest = ops.into_vec();
-        rest.reverse();
-        'taking: while let Some(op) = rest.pop() {
+        let mut rest = ops.into_remaining();
+        'taking: while let Some(op) = rest.pop_first() {
             self.take_one(op, &mut taken)?;
         }
         Ok(taken)
@@ -222,42 +223,4 @@ impl Replica {
         };
         Ok(message)
     }
-}
-
-// Counts an operation that arrived. After an error nothing is counted.
-fn count_receipt(
-    author: u32,
-    seq: u32,
-    receipt: Receipt,
-    taken: &mut Taken,
-) -> Result<(), AllocError>
-    requires room { HasRoom taken.old }
-    ensures ok { OnOk result (taken.new ≡ with_receipt taken.old author seq (answer_of receipt)) }
-    ensures err { OnErr result (taken.new ≡ taken.old) }
-{
-    match receipt {
-        Receipt::Applied => taken.applied += 1,
-        Receipt::Repeated => taken.repeated += 1,
-        Receipt::Held => taken.held += 1,
-        Receipt::Refused(refusal) => taken.refused.push(author, seq, refusal)?,
-    }
-    Ok(())
-}
-
-// Counts an operation that was released. After an error nothing is counted.
-fn count_release(release: Release, taken: &mut Taken) -> Result<(), AllocError>
-    requires room { taken.old.released < 2 ^ 64 - 1 }
-    ensures ok { OnOk result (taken.new ≡ with_reason taken.old release.author release.seq (reason_in release.refusal)) }
-    ensures err { OnErr result (taken.new ≡ taken.old) }
-{
-    let Release {
-        author,
-        seq,
-        refusal,
-    } = release;
-    match refusal {
-        None => taken.released += 1,
-        Some(refusal) => taken.refused.push(author, seq, refusal)?,
-    }
-    Ok(())
 }

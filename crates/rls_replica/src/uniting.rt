@@ -47,7 +47,7 @@ fn put_next(both: &mut Runs, a: &Runs, i: u64, b: &Runs, j: u64) -> Result<(u64,
         let next = put_part(both, b, j, end)?;
         return Ok((i, next));
     }
-    let count = common(a, i, b, j);
+    let count = a.count_common(i, b, j);
     let next = put_part(both, a, i, i + count)?;
     Ok((next, j + (next - i)))
 }
@@ -87,20 +87,4 @@ pub(crate) fn put_part(both: &mut Runs, ids: &Runs, from: u64, end: u64) -> Resu
     }
     both.append(part)?;
     Ok(from + count as u64)
-}
-
-// How many identifiers from a place on, within their run, are those of another list from a place on.
-pub(crate) fn common(ids: &Runs, i: u64, others: &Runs, j: u64) -> u64
-    requires place { i < length ids.now }
-    requires other_place { j < length others.now }
-    requires same { slice_get ids.now i ≡ slice_get others.now j }
-    ensures some { 0 < result }
-    ensures within { i + result ≤ length ids.now }
-    ensures other_within { j + result ≤ length others.now }
-    ensures same { (k : ℕ) → k < result → slice_get ids.now (i + k) ≡ slice_get others.now (j + k) }
-{
-    rely!(let (_ids, _others) = (ids.total(), others.total()));
-    let (run, start) = ids.locate(i);
-    let (other, from) = others.locate(j);
-    (run.len() - start).min(other.len() - from) as u64
 }

@@ -26,28 +26,28 @@ returns-then-j-end-clause-second c =
     let n = c.in_ok-next-2 in
     put_more c.args.b.now c.args.j n.next c.args.both.now c.put_part-then-j-end.new.both (rising_of c.args.b.now c.total-b.ensures.idents.1) c.requires.second n.ensures.later (omega (arith, n.ensures.within, c.in_ok-end-2.ensures.within)) n.ensures.all n.ensures.only
 
-pub common-count-requires-clause-same : goal.common-count-requires-clause-same
-common-count-requires-clause-same c =
+pub count_common-count-requires-clause-same : goal.count_common-count-requires-clause-same
+count_common-count-requires-clause-same c =
     let e = c.in_ok-end.ensures in
     let f = c.in_ok-end-2.ensures in
     both_next c.args.a.now c.args.b.now c.args.i c.args.j c.in_ok-end.end c.in_ok-end-2.end c.requires.more e.all (omega (arith, c.if-i-end.false)) f.all (omega (arith, c.if-j-end.false)) e.rest f.rest
 
 pub overflow_add-result : goal.overflow_add-result
-overflow_add-result c = omega (arith, c.common-count.ensures.other_within, c.in_ok-next-3.ensures.within, c.in_ok-next-3.ensures.later, c.total-b.ensures.total)
+overflow_add-result c = omega (arith, c.count_common-count.ensures.other_within, c.in_ok-next-3.ensures.within, c.in_ok-next-3.ensures.later, c.total-b.ensures.total)
 
 pub returns-clause-first : goal.returns-clause-first
 returns-clause-first c =
     let n = c.in_ok-next-3 in
-    put_more c.args.a.now c.args.i n.next c.args.both.now c.put_part-2.new.both (rising_of c.args.a.now c.total-a.ensures.idents.1) c.requires.first n.ensures.later (omega (arith, n.ensures.within, c.common-count.ensures.within)) n.ensures.all n.ensures.only
+    put_more c.args.a.now c.args.i n.next c.args.both.now c.put_part-2.new.both (rising_of c.args.a.now c.total-a.ensures.idents.1) c.requires.first n.ensures.later (omega (arith, n.ensures.within, c.count_common-count.ensures.within)) n.ensures.all n.ensures.only
 
 pub returns-clause-second : goal.returns-clause-second
 returns-clause-second c =
     let n = c.in_ok-next-3 in
     let a = c.args.a.now in
     let b = c.args.b.now in
-    let to = moved a b c.args.i c.args.j c.common-count.result n.next c.common-count.ensures.same (omega (arith, n.ensures.later)) n.ensures.within in
-    let back = moved_back a b c.args.i c.args.j c.common-count.result n.next c.common-count.ensures.same (omega (arith, n.ensures.later)) n.ensures.within in
-    put_more b c.args.j (c.args.j + (n.next - c.args.i)) c.args.both.now c.put_part-2.new.both (rising_of b c.total-b.ensures.idents.1) c.requires.second (omega (arith, n.ensures.later)) (omega (arith, n.ensures.within, n.ensures.later, c.common-count.ensures.other_within))
+    let to = moved a b c.args.i c.args.j c.count_common-count.result n.next c.count_common-count.ensures.same (omega (arith, n.ensures.later)) n.ensures.within in
+    let back = moved_back a b c.args.i c.args.j c.count_common-count.result n.next c.count_common-count.ensures.same (omega (arith, n.ensures.later)) n.ensures.within in
+    put_more b c.args.j (c.args.j + (n.next - c.args.i)) c.args.both.now c.put_part-2.new.both (rising_of b c.total-b.ensures.idents.1) c.requires.second (omega (arith, n.ensures.later)) (omega (arith, n.ensures.within, n.ensures.later, c.count_common-count.ensures.other_within))
     (λ x p. n.ensures.all x (⊎_elim inl (λ s. inr (to x s)) p)) (λ x p. ⊎_elim inl (λ s. inr (back x s)) (n.ensures.only x p))
 
 pub returns-then-i-end-clause-only : goal.returns-then-i-end-clause-only

@@ -28,12 +28,12 @@ after c =
     let o = c.args.op.now in
     let p = c.in_ok-renaming.ensures in
     let f = c.finish.ensures in
-    accepted_is i o c.finish.new.acks c.finish.new.stems.stems c.finish.new.epochs.epochs (entries_of c.prepare.new.document.blocks) c.remove-held.new.self c.keep_unstable.new.log
+    accepted_is i o c.finish.new.acks c.finish.new.stems.stems c.finish.new.epochs.epochs (entries_of c.prepare.new.document.blocks) c.forget.new.held c.keep_unstable.new.log
     f.acks
     (f.stems ∙ ap (λ (ss : List Stem). stems_after ss o.author o.seq o.body) p.stems)
     (f.epochs ∙ ap (λ (E : Epochs). epochs_after E o) p.epochs)
     (p.text i refl refl)
-    c.remove-held.ensures.others
+    c.forget.ensures.others
     (c.keep_unstable.ensures.log i.log p.log c.len-count.ensures.len ∙ ap (λ v. logged v i.log o) c.stable.ensures.stable)
     ∙ ap (λ (s : Seen). accepted s o) c.self.view_is
 
@@ -45,7 +45,7 @@ invariant_of-self-2 c =
     let s = c.args.self.now in
     let o = c.args.op.now in
     let sane : IsSane (accepted s o) = accepted_sane s o (subst IsSane c.self.view_is c.self.invariant.sane) c.requires.may c.fits.ensures.range in
-    whole_kept (seen c.self.inside) s _ (accepted s o) c.self.inside.stems.members c.finish.new.stems.members c.self.inside.gone c.self.inside.known c.kept_known.result c.self.view_is c.self.invariant (after c) sane (members_accepted s o) (c.finish.ensures.members ∙ c.in_ok-renaming.ensures.members) (gone_accepted s o (subst IsSane c.self.view_is c.self.invariant.sane) c.requires.may)
-    (next_known (seen c.self.inside) s c.self.inside.stems.members c.self.inside.gone c.self.inside.known c.take-known.result c.kept_known.result o c.finish.new.epochs.epochs c.stable-2.result.now c.self.view_is c.self.invariant c.take-known.ensures.value
+    whole_kept (seen c.self.inside) s _ (accepted s o) c.self.inside.stems.members c.finish.new.stems.members c.self.inside.gone c.self.inside.known c.keep_known.new.known c.self.view_is c.self.invariant (after c) sane (members_accepted s o) (c.finish.ensures.members ∙ c.in_ok-renaming.ensures.members) (gone_accepted s o (subst IsSane c.self.view_is c.self.invariant.sane) c.requires.may)
+    (next_known (seen c.self.inside) s c.self.inside.stems.members c.self.inside.gone c.self.inside.known c.self.inside.known c.keep_known.new.known o c.finish.new.epochs.epochs c.stable-2.result.now c.self.view_is c.self.invariant refl
     (c.finish.ensures.epochs ∙ (ap (λ (E : Epochs). epochs_after E o) c.in_ok-renaming.ensures.epochs ∙ ap (λ (u : Seen). epochs_after u.epochs o) c.self.view_is))
-    (c.stable-2.ensures.stable ∙ (ap stable_of c.finish.ensures.acks ∙ ap (λ (u : Seen). stable_of (acks_after u.acks o.author o.body)) c.self.view_is)) c.kept_known.ensures.kept)
+    (c.stable-2.ensures.stable ∙ (ap stable_of c.finish.ensures.acks ∙ ap (λ (u : Seen). stable_of (acks_after u.acks o.author o.body)) c.self.view_is)) c.keep_known.ensures.kept)

@@ -94,7 +94,7 @@ pub invariant_of-self-2 : goal.invariant_of-self-2
 invariant_of-self-2 c =
     let s = c.args.self.now in
     let sane = released_sane s (subst IsSane c.self.view_is c.self.invariant.sane) in
-    whole_kept (seen c.self.inside) s _ (released s) c.self.inside.stems.members c.finish.new.stems.members c.self.inside.gone c.self.inside.known c.kept_known.result c.self.view_is c.self.invariant (after c) sane (members_released s) (c.finish.ensures.members ∙ c.in_ok-renaming.ensures.members)
+    whole_kept (seen c.self.inside) s _ (released s) c.self.inside.stems.members c.finish.new.stems.members c.self.inside.gone c.self.inside.known c.keep_known.new.known c.self.view_is c.self.invariant (after c) sane (members_released s) (c.finish.ensures.members ∙ c.in_ok-renaming.ensures.members)
     (λ g k. let i = seen c.self.inside in
     let h = next_is i s c.mine.result.now c.in-Some.op.now c.self.view_is c.self.invariant.sane c.mine.ensures.mine c.in-Some.ensures.ready c.requires.fits in
     subst (λ (u : Seen). IsGone u g) (released_accepted i c.in-Some.op.now h.first h.fits ∙ ap released c.self.view_is) (gone_accepted i c.in-Some.op.now c.self.invariant.sane h.may g (subst (λ (u : Seen). IsGone u g) (sym c.self.view_is) k)))
@@ -103,6 +103,6 @@ invariant_of-self-2 c =
     let h = next_is i s c.mine.result.now w c.self.view_is c.self.invariant.sane c.mine.ensures.mine c.in-Some.ensures.ready c.requires.fits in
     let o = c.in-Some-remove.op in
     let e = next_taken _ s _ w o c.remove.result c.self.view_is c.self.invariant.sane c.mine.ensures.mine c.in-Some.ensures.ready c.requires.fits c.remove.ensures.found c.in-Some-remove.is in
-    subst (λ (u : Seen). IfSome c.kept_known.result (λ k. IsKnown u k)) (ap (accepted i) e ∙ (released_accepted i w h.first h.fits ∙ ap released c.self.view_is))
-    (next_known i i c.self.inside.stems.members c.self.inside.gone c.self.inside.known c.take-known.result c.kept_known.result o c.finish.new.epochs.epochs c.stable-2.result.now refl c.self.invariant c.take-known.ensures.value
-    (c.finish.ensures.epochs ∙ ap (λ (E : Epochs). epochs_after E o) c.in_ok-renaming.ensures.epochs) (c.stable-2.ensures.stable ∙ ap stable_of c.finish.ensures.acks) c.kept_known.ensures.kept))
+    subst (λ (u : Seen). IfSome c.keep_known.new.known (λ k. IsKnown u k)) (ap (accepted i) e ∙ (released_accepted i w h.first h.fits ∙ ap released c.self.view_is))
+    (next_known i i c.self.inside.stems.members c.self.inside.gone c.self.inside.known c.self.inside.known c.keep_known.new.known o c.finish.new.epochs.epochs c.stable-2.result.now refl c.self.invariant refl
+    (c.finish.ensures.epochs ∙ ap (λ (E : Epochs). epochs_after E o) c.in_ok-renaming.ensures.epochs) (c.stable-2.ensures.stable ∙ ap stable_of c.finish.ensures.acks) c.keep_known.ensures.kept))

@@ -21,7 +21,7 @@ get-requires c =
 pub returns-in-Ok-clause-within : goal.returns-in-Ok-clause-within
 returns-in-Ok-clause-within c =
     let long = ap length c.in_ok-there.ensures.translated ∙ length-map c.args.ids.now (translate_over (seen c.self.inside) c.args.epoch c.args.op.now.epoch) in
-    omega (arith, long, c.common.ensures.within)
+    omega (arith, long, c.count_common.ensures.within)
 
 pub returns-in-Ok-clause-known : goal.returns-in-Ok-clause-known
 returns-in-Ok-clause-known c k x l g =
@@ -33,6 +33,6 @@ returns-in-Ok-clause-known c k x l g =
     let unstable = unstable_seen c.args.op.now c.self.view_is c.requires.logged (sym c.is_stable.ensures.covered ∙ c.if-is_stable.false) in
     let there = ap (λ ys. slice_get ys k) c.in_ok-there.ensures.translated ∙ (slice_get-map f xs k ∙ ap (option_map f) g) in
     let first : 0 + k ≡ k = omega arith in
-    let among = get_in c.in-Delete.targets (c.in-Ok.i + k) (f x) (sym (c.common.ensures.same k l) ∙ (ap (slice_get c.in_ok-there.there) first ∙ there)) in
+    let among = get_in c.in-Delete.targets (c.in-Ok.i + k) (f x) (sym (c.count_common.ensures.same k l) ∙ (ap (slice_get c.in_ok-there.there) first ∙ there)) in
     subst (λ (s : Seen). is_known_over s e x ≡ true) c.self.view_is
     (known_there i e x o c.in-Delete.targets c.self.invariant.sane.epochs.nodes (ident_in xs c.total-ids.ensures.idents x (get_in xs k x g)) c.total-targets.ensures.idents unstable c.in-Delete.is among)

@@ -1,12 +1,37 @@
-use Rattle.std.proofs.Common.{◌∙◌, sym, ap, refl, rules}
-use Rattle.rls_seen.specs.Over.{released_all}
+use Rattle.std.proofs.Common.{◌≡◌, ◌∙◌, [], false, sym, ap, refl, rules}
+use Rattle.std.specs.Prelude.{is_some}
+use Rattle.rls_seen.specs.Seen.{Seen}
+use Rattle.rls_seen.specs.Over.{release_over, released_all}
 use Rattle.rls_seen.specs.Messages.{with_releases}
 use Rattle.rls_seen.proofs.Repeating.{all_done, all_more, fewer_wait, part_more}
 use Rattle.rls_seen.proofs.Releasing.{released_all_stands}
 use Rattle.rls_replica.specs.Steps.{course}
+use Rattle.rls_replica.proofs.Answered.{nothing_released}
 use Rattle.rls_replica.proofs.Courses.{none_released, step_done, releases_done, releases_more, parts_sum}
 use Rattle.rls_replica.proofs.KeptNames.{all_names, part_released_names}
 use Rattle.rls_replica.proofs.replica.Replica.release_all.Goals as goal
+
+-- ---- nothing waits
+
+idle : (s : Seen) → s.waiting ≡ [] → is_some (release_over s) ≡ false
+idle s e = ap is_some (nothing_released s e)
+
+pub returns-then-none_waits-clause-ok : goal.returns-then-none_waits-clause-ok
+returns-then-none_waits-clause-ok c = sym (releases_done (course c.args.self.now c.args.taken.now) (idle c.args.self.now (c.none_waits.ensures.none c.if-none_waits.true)))
+
+idle_after : goal.returns-then-none_waits-clause-after
+idle_after c = sym (all_done c.args.self.now (idle c.args.self.now (c.none_waits.ensures.none c.if-none_waits.true)))
+
+pub returns-then-none_waits-clause-after : goal.returns-then-none_waits-clause-after
+returns-then-none_waits-clause-after c = idle_after c
+
+pub returns-then-none_waits-clause-stands : goal.returns-then-none_waits-clause-stands
+returns-then-none_waits-clause-stands c = λ t h. rw (idle_after c) (released_all_stands c.args.self.now t h)
+
+pub returns-then-none_waits-clause-names : goal.returns-then-none_waits-clause-names
+returns-then-none_waits-clause-names c = λ e h. h
+
+-- ---- one after another
 
 pub returns-in_err-release_one-clause-err : goal.returns-in_err-release_one-clause-err
 returns-in_err-release_one-clause-err c =

@@ -1,11 +1,17 @@
 use Rattle.std.proofs.Common.{◌≡◌, ◌∙◌, Option, Some, None, sym, ap}
 use Rattle.rls_model.specs.declared.receipt.Refusal.{Refusal}
-use Rattle.rls_model.specs.Answers.{reason_of}
+use Rattle.rls_model.specs.Answers.{reason_of, reason_in}
 use Rattle.rls_seen.specs.Over.{release_over, released}
 use Rattle.rls_seen.proofs.Repeating.{released_none}
-use Rattle.rls_replica.specs.Releases.{reason_in, release_in}
-use Rattle.rls_replica.proofs.Answered.{refused_is, fits_is}
+use Rattle.rls_replica.specs.Releases.{release_in}
+use Rattle.rls_replica.proofs.Answered.{refused_is, fits_is, nothing_released}
 use Rattle.rls_replica.proofs.replica.Replica.release_exactly.Goals as goal
+
+pub returns-then-none_waits-clause-answer : goal.returns-then-none_waits-clause-answer
+returns-then-none_waits-clause-answer c = sym (nothing_released c.args.self.now (c.none_waits.ensures.none c.if-none_waits.true))
+
+pub returns-then-none_waits-clause-after : goal.returns-then-none_waits-clause-after
+returns-then-none_waits-clause-after c = sym (released_none c.args.self.now (nothing_released c.args.self.now (c.none_waits.ensures.none c.if-none_waits.true)))
 
 pub returns-in_default-clause-after : goal.returns-in_default-clause-after
 returns-in_default-clause-after c = sym (released_none c.learn_ready.new.self (sym c.in_ok-release.ensures.answer ∙ ap release_in c.in_default.is)) ∙ ap released (c.learn_ready.ensures.same ∙ c.note_gone.ensures.same)

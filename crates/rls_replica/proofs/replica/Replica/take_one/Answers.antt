@@ -1,11 +1,12 @@
-use Rattle.std.proofs.Common.{◌≡◌, ◌∙◌, ◌∷◌, ◌+◌, List, ap, subst, rules}
+use Rattle.std.proofs.Common.{◌∙◌, ◌∷◌, ◌+◌, List, ap, subst, rules}
 use Rattle.rls_ops.specs.declared.op.Op.{Op}
 use Rattle.rls_model.specs.Answers.{answer_of}
+use Rattle.rls_model.specs.Machine.{with_receipt}
 use Rattle.rls_seen.specs.Seen.{Seen}
 use Rattle.rls_seen.specs.Over.{received, IsPartReleased}
 use Rattle.rls_seen.specs.Messages.{with_releases}
 use Rattle.rls_seen.specs.Sane.{IsSane}
-use Rattle.rls_replica.specs.Steps.{course, with_receipt, IsOnWay, IsPartOfOps}
+use Rattle.rls_replica.specs.Steps.{course, IsOnWay, IsPartOfOps}
 use Rattle.rls_replica.proofs.Courses.{taken_none, taken_received, taken_part, taken_all, received_counts, unreceived_counts, received_few}
 use Rattle.rls_replica.proofs.replica.Replica.take_one.Goals as goal
 
@@ -46,11 +47,11 @@ returns-in_err-release_all-clause-err c =
 
 pub returns-in_err-release_all-clause-arrived : goal.returns-in_err-release_all-clause-arrived
 returns-in_err-release_all-clause-arrived c =
-    λ n h. c.in_err-release_all.ensures.arrived (n + 1) (received_few n c.args.taken.now c.count_receipt.new.taken c.args.op (answer_of c.in_ok-receipt.receipt) c.in_ok-count_receipt.ensures.ok h)
+    λ n h. c.in_err-release_all.ensures.arrived (n + 1) (received_few n c.args.taken.now c.count_receipt.new.self c.args.op (answer_of c.in_ok-receipt.receipt) c.in_ok-count_receipt.ensures.ok h)
 
 pub returns-clause-arrived : goal.returns-clause-arrived
 returns-clause-arrived c =
-    λ n h. c.in_ok-release_all.ensures.arrived (n + 1) (received_few n c.args.taken.now c.count_receipt.new.taken c.args.op (answer_of c.in_ok-receipt.receipt) c.in_ok-count_receipt.ensures.ok h)
+    λ n h. c.in_ok-release_all.ensures.arrived (n + 1) (received_few n c.args.taken.now c.count_receipt.new.self c.args.op (answer_of c.in_ok-receipt.receipt) c.in_ok-count_receipt.ensures.ok h)
 
 pub returns-clause-ok : goal.returns-clause-ok
 returns-clause-ok c = λ s os rest w.
@@ -60,4 +61,4 @@ returns-clause-ok c = λ s os rest w.
     let after = c.in_ok-receipt.ensures.after in
     let counted = c.in_ok-count_receipt.ensures.ok ∙ ap (with_receipt t o.author o.seq) c.in_ok-receipt.ensures.answer in
     taken_all s r c.release_all.new.self t c.release_all.new.taken o os rest (subst IsSane after c.sane-2.ensures.sane)
-    (c.in_ok-release_all.ensures.ok ∙ ap with_releases (ap (λ x. course x c.count_receipt.new.taken) after ∙ ap (course (received r o)) counted)) w
+    (c.in_ok-release_all.ensures.ok ∙ ap with_releases (ap (λ x. course x c.count_receipt.new.self) after ∙ ap (course (received r o)) counted)) w

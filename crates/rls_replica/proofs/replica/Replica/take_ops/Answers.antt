@@ -1,12 +1,11 @@
-use Rattle.std.proofs.Common.{◌≡◌, ◌+◌, ◌^◌, ℕ, None, Some, length, sym, ap, rules, arith}
-use Rattle.std.specs.Prelude.{reverse}
+use Rattle.std.proofs.Common.{◌≡◌, ◌+◌, ◌^◌, ℕ, None, Some, length, sym, ap, subst, rules, arith}
 use Rattle.rls_model.specs.Receiving.{State}
 use Rattle.rls_model.specs.Taking as model
 use Rattle.rls_seen.specs.Messages.{started, taken_of}
 use Rattle.rls_seen.specs.Stands.{StandsFor}
-use Rattle.rls_replica.specs.Steps.{course, IsPartOfOps}
+use Rattle.rls_replica.specs.Steps.{course, IsPartOfOps, IsOnWay}
 use Rattle.rls_replica.proofs.Cut.{ops_part_stands}
-use Rattle.rls_replica.proofs.Courses.{next_on_way, fewer_left, empty_is, none_left, ops_all_stands}
+use Rattle.rls_replica.proofs.Courses.{none_left, ops_all_stands}
 use Rattle.rls_replica.proofs.KeptNames.{ops_names, part_of_ops_names}
 use Rattle.rls_replica.proofs.replica.Replica.take_ops.Goals as goal
 
@@ -15,41 +14,38 @@ taking-preserved c =
     let e = c.in_ok-take_one.ensures in
     let few = c.taking.invariant.few in
     record {
-      way = e.ok c.args.self.now c.args.ops (reverse c.pop.new.self.items) (next_on_way c.args.self.now (course c.taking.self c.taking.taken) c.args.ops c.taking.rest.items c.pop.new.self.items c.in-Some.op c.in-Some.ensures.items c.taking.invariant.way);
+      way = e.ok c.args.self.now c.args.ops c.pop_first.new.self (subst (IsOnWay c.args.self.now c.args.ops (course c.taking.self c.taking.taken)) c.in-Some.ensures.first c.taking.invariant.way);
       counted = e.counted;
-      few = (few.0 + 1, fewer_left few.0 (2 ^ 63) c.taking.rest.items c.pop.new.self.items c.in-Some.op c.in-Some.ensures.items few.1, e.arrived few.0 few.2);
+      few = (few.0 + 1, omega (arith, ap length c.in-Some.ensures.first, few.1), e.arrived few.0 few.2);
     }
 
 pub returns-in_err-take_one-clause-err : goal.returns-in_err-take_one-clause-err
 returns-in_err-take_one-clause-err c =
-    let part : IsPartOfOps c.args.self.now c.args.ops c.take_one.new.self = c.in_err-take_one.ensures.err c.args.self.now c.args.ops (reverse c.pop.new.self.items) (next_on_way c.args.self.now (course c.taking.self c.taking.taken) c.args.ops c.taking.rest.items c.pop.new.self.items c.in-Some.op c.in-Some.ensures.items c.taking.invariant.way) in
+    let part : IsPartOfOps c.args.self.now c.args.ops c.take_one.new.self = c.in_err-take_one.ensures.err c.args.self.now c.args.ops c.pop_first.new.self (subst (IsOnWay c.args.self.now c.args.ops (course c.taking.self c.taking.taken)) c.in-Some.ensures.first c.taking.invariant.way) in
     search rules
 
 pub returns-in_err-take_one-clause-part : goal.returns-in_err-take_one-clause-part
 returns-in_err-take_one-clause-part c =
-    let part : IsPartOfOps c.args.self.now c.args.ops c.take_one.new.self = c.in_err-take_one.ensures.err c.args.self.now c.args.ops (reverse c.pop.new.self.items) (next_on_way c.args.self.now (course c.taking.self c.taking.taken) c.args.ops c.taking.rest.items c.pop.new.self.items c.in-Some.op c.in-Some.ensures.items c.taking.invariant.way) in
+    let part : IsPartOfOps c.args.self.now c.args.ops c.take_one.new.self = c.in_err-take_one.ensures.err c.args.self.now c.args.ops c.pop_first.new.self (subst (IsOnWay c.args.self.now c.args.ops (course c.taking.self c.taking.taken)) c.in-Some.ensures.first c.taking.invariant.way) in
     let stands : (t : State) → StandsFor c.args.self.now t → (n : ℕ) × StandsFor c.take_one.new.self (model.take_ops (model.started (Some n) t) c.args.ops).state =
     λ t h. ops_part_stands c.args.self.now c.take_one.new.self t c.args.ops c.fits.ensures.whole part h in
     search rules
 
 pub returns-clause-taken : goal.returns-clause-taken
 returns-clause-taken c =
-    let e : length c.taking.rest.items ≡ 0 = omega (arith, c.in_default.ensures.cases.0) in
-    sym (ap taken_of (none_left c.args.self.now c.taking.self c.taking.taken c.args.ops c.taking.rest.items (empty_is c.taking.rest.items e) c.taking.invariant.way))
+    sym (ap taken_of (none_left c.args.self.now c.taking.self c.taking.taken c.args.ops c.taking.rest c.in_default.ensures.none.0 c.taking.invariant.way))
 
 pub returns-clause-after : goal.returns-clause-after
 returns-clause-after c =
-    let e : length c.taking.rest.items ≡ 0 = omega (arith, c.in_default.ensures.cases.0) in
-    sym (ap (λ d. d.state) (none_left c.args.self.now c.taking.self c.taking.taken c.args.ops c.taking.rest.items (empty_is c.taking.rest.items e) c.taking.invariant.way))
+    sym (ap (λ d. d.state) (none_left c.args.self.now c.taking.self c.taking.taken c.args.ops c.taking.rest c.in_default.ensures.none.0 c.taking.invariant.way))
 
 pub returns-clause-stands : goal.returns-clause-stands
 returns-clause-stands c = λ t h.
-    let e : length c.taking.rest.items ≡ 0 = omega (arith, c.in_default.ensures.cases.0) in
     ops_all_stands c.args.self.now c.taking.self c.taking.taken t c.args.ops c.fits.ensures.whole
-    (none_left c.args.self.now c.taking.self c.taking.taken c.args.ops c.taking.rest.items (empty_is c.taking.rest.items e) c.taking.invariant.way) h
+    (none_left c.args.self.now c.taking.self c.taking.taken c.args.ops c.taking.rest c.in_default.ensures.none.0 c.taking.invariant.way) h
 
 pub returns-in_err-take_one-clause-names : goal.returns-in_err-take_one-clause-names
-returns-in_err-take_one-clause-names c = part_of_ops_names c.args.self.now c.take_one.new.self c.args.ops (c.in_err-take_one.ensures.err c.args.self.now c.args.ops (reverse c.pop.new.self.items) (next_on_way c.args.self.now (course c.taking.self c.taking.taken) c.args.ops c.taking.rest.items c.pop.new.self.items c.in-Some.op c.in-Some.ensures.items c.taking.invariant.way))
+returns-in_err-take_one-clause-names c = part_of_ops_names c.args.self.now c.take_one.new.self c.args.ops (c.in_err-take_one.ensures.err c.args.self.now c.args.ops c.pop_first.new.self (subst (IsOnWay c.args.self.now c.args.ops (course c.taking.self c.taking.taken)) c.in-Some.ensures.first c.taking.invariant.way))
 
 pub returns-clause-names : goal.returns-clause-names
 returns-clause-names c = rw (returns-clause-after c) (ops_names c.args.ops (started None c.args.self.now))
