@@ -32,7 +32,7 @@ use Rattle.rls_file.proofs.GivenParts.{parts_are_given}
 use Rattle.rls_file.proofs.WholeFiles.{after_form, file_is, fault_of}
 use Rattle.rls_store.specs.declared.loading.FileError.{FileError}
 use Rattle.rls_store.specs.declared.loading.FileError.TheVariants.{Damaged, OutOfMemory}
-use Rattle.rls_store.specs.Loading.{snapshot_behind, damage_of, ReadsParts, IsPlaceOf, IsLoaded, StandsFrom, Loads, FileStandsFor, seen_in}
+use Rattle.rls_store.specs.Loading.{snapshot_behind, damage_of, ReadsParts, IsLoaded, StandsFrom, Loads, FileStandsFor, seen_in}
 use Rattle.rls_store.specs.Kept.{LoadedIsWritable}
 use Rattle.rls_store.specs.Stored.{AreWritable}
 use Rattle.rls_store.proofs.Bounded.{whole_length, place_within}
@@ -97,24 +97,17 @@ fault_loads form (Damaged at) bytes h = ap (λ x. x >>= tested) h
 fault_loads form OutOfMemory bytes h = tt
 
 -- the place of a broken rule is what the file answers
-pub broken_loads : (bytes : List ℕ) (form rule index : ℕ) (p : Parts) (e : FileError) → IsBytes bytes → length bytes < 2 ^ 64 → whole bytes (file_at bytes) ≡ Ok (Snapshot form p) → broken p ≡ Some (record { rule = rule; index = index })
-    → IsPlaceOf form rule index e bytes → Loads (Err e) bytes
+pub broken_loads : (bytes : List ℕ) (form rule index r i at : ℕ) (p : Parts) → IsBytes bytes → length bytes < 2 ^ 64 → whole bytes (file_at bytes) ≡ Ok (Snapshot form p) → broken p ≡ Some (record { rule = rule; index = index })
+    → r ≡ rule → i ≡ index → at ≡ min (place_of_broken form p (record { rule = r; index = i })) (2 ^ 64 - 1) → Loads (Err (Damaged at)) bytes
 unfolding file_of
-broken_loads bytes form rule index p OutOfMemory b l h broke place = tt
-broken_loads bytes form rule index p (Damaged at) b l h broke place =
+broken_loads bytes form rule index r i at p b l h broke same also place =
     let s = spelled bytes form p b h in
     let within = place_within form p s.1.parts.stems rule index in
     let all = ap length s.0 ∙ whole_length form p s.1.parts.stems in
-    let is : place_of_broken form p (record { rule = rule; index = index }) ≡ at = omega (arith, place p h, within, all, l) in
+    let there : place_of_broken form p (record { rule = r; index = i }) ≡ place_of_broken form p (record { rule = rule; index = index }) =
+    ap (λ n. place_of_broken form p (record { rule = n; index = i })) same ∙ ap (λ n. place_of_broken form p (record { rule = rule; index = n })) also in
+    let is : place_of_broken form p (record { rule = rule; index = index }) ≡ at = omega (arith, place, there, within, all, l) in
     ap (λ x. x >>= tested) h ∙ ap (unless_broken form p) broke ∙ ap (λ n. Err n) is
-
--- the place that was found in the parts that were read
-pub place_read : (bytes : List ℕ) (form rule index at : ℕ) (p : Parts) → whole bytes (file_at bytes) ≡ Ok (Snapshot form p) → at ≡ min (place_of_broken form p (record { rule = rule; index = index })) (2 ^ 64 - 1) → IsPlaceOf form rule index (Damaged at) bytes
-place_read bytes form rule index at p h e q k = e ∙ ap (λ x. min (place_of_broken form x (record { rule = rule; index = index })) (2 ^ 64 - 1)) (same_parts form p q (sym h ∙ k))
-
-pub place_fault : (form rule index : ℕ) (e : FileError) (bytes : List ℕ) → ReadsParts form (Err e) bytes → IsPlaceOf form rule index e bytes
-place_fault form rule index (Damaged at) bytes h = λ p k. absurd (not_both (whole bytes (file_at bytes)) (Snapshot form p) at k h)
-place_fault form rule index OutOfMemory bytes h = tt
 
 -- ---- journals
 

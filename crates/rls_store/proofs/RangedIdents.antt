@@ -13,13 +13,14 @@ use Rattle.rls_ident.specs.Tuples.{offset_of, at_offset}
 use Rattle.rls_ident.specs.Identifiers.{last_of, least_offset, greatest_offset, ident_cmp, pred, shifted, least_inner}
 use Rattle.rls_ident.specs.Between.{between}
 use Rattle.rls_ident.proofs.Members.{and_left, and_right, int_le_is}
+use Rattle.rls_runs.specs.Places.{is_above}
 use Rattle.rls_rename.specs.Renaming.{Renaming, new_pos, first_pos, new_spot, new_at, old_below, old_above, old_above_inverse, old_between, old_below_inverse, old_between_inverse, new_below, new_between, new_below_inverse, new_between_inverse, new_above_inverse, forward_above, forward_by, back_above, back_by, forward, back}
 use Rattle.rls_rename.specs.Tree.{Node, path, same_name, forward_all, back_all, along, translate}
 use Rattle.rls_rename.proofs.Paths.{IsAmong, AreAmong, path-among}
 use Rattle.rls_ops.specs.WellFormed.{IsSmall}
 use Rattle.rls_codec.proofs.Ranged.{IsRanged, AreInner, AllRanged, offset_to, head_inner, rest_ranged, all_inner, ranged_append, ranged_drop, last_most, pred_high, then_low, shifted_ranged, next_ranged, ranged_if, ranged_order, low_ranged, high_ranged, low_inverse_ranged, high_inverse_ranged, between_ranged}
 use Rattle.rls_model.specs.declared.parts.Stem.{Stem}
-use Rattle.rls_model.specs.Editing.{own_stem, ends_below, begins_above, may_append, may_prepend, or_missing, first_before, first_between}
+use Rattle.rls_model.specs.Editing.{own_stem, ends_below, may_append, may_prepend, or_missing, first_before, first_between}
 
 -- ---- one renaming
 
@@ -149,7 +150,7 @@ prepends None left right n h = absurd (cc)
 prepends (Some stem) left right n h =
     let a = int_eq (offset_of (last_of right)) stem.low in
     let b = int_le least_offset (offset_of (last_of right) -ℤ pos n) in
-    let c = begins_above left (shifted (pos 0 -ℤ pos n) right) in
+    let c = is_above left (shifted (pos 0 -ℤ pos n) right) in
     int_le_is least_offset (offset_of (last_of right) -ℤ pos n) (and_right a b (and_left (a && b) c h))
 
 appends : (stem : Option Stem) (left : List Tuple) (right : Option (List Tuple)) (n : ℕ) → may_append stem left right n ≡ true → (offset_of (last_of left) +ℤ pos n) ≤ℤ greatest_offset

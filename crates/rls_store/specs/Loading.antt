@@ -1,5 +1,5 @@
 -- What loading a file answers.
-use Rattle.std.specs.Prelude.{◌≡◌, ℕ, ◌-◌, ◌^◌, ◌⊎◌, min, List, nat_lt, Result, Ok, Err}
+use Rattle.std.specs.Prelude.{◌≡◌, ℕ, ◌-◌, ◌⊎◌, List, nat_lt, Result, Ok, Err}
 use Rattle.std.specs.Int.{w32, w64}
 use Rattle.rls_codec.specs.declared.fault.ReadError.{ReadError}
 use Rattle.rls_codec.specs.declared.fault.ReadError.TheVariants as read
@@ -11,14 +11,16 @@ use Rattle.rls_model.specs.Receiving.{State}
 use Rattle.rls_seen.specs.Kept.{dropped}
 use Rattle.rls_seen.specs.Seen.{Seen}
 use Rattle.rls_seen.specs.Stands.{StandsFor}
+use Rattle.rls_parts.specs.Given.{AreGiven}
 use Rattle.rls_parts.specs.Restored.{seen_of}
-use Rattle.rls_fields.specs.Fields.{place_of_broken}
 use Rattle.rls_fields.specs.ReadingFields.{snapshot_at}
 use Rattle.rls_file.specs.Files.{Content, Journal, Snapshot}
 use Rattle.rls_file.specs.Journals.{seen_with}
 use Rattle.rls_file.specs.ReadingFiles.{file_at, file_of}
 use Rattle.rls_store.specs.declared.loading.FileError.{FileError}
 use Rattle.rls_store.specs.declared.loading.FileError.TheVariants.{Damaged, OutOfMemory}
+use Rattle.rls_store.specs.declared.loading.FileRead.{FileRead}
+use Rattle.rls_store.specs.declared.loading.FileRead.TheVariants as found
 
 -- what follows the form of a snapshot
 unfoldable pub snapshot_behind : ℕ → List ℕ → Read Content
@@ -40,12 +42,6 @@ ReadsParts form (Ok p) bytes = whole bytes (file_at bytes) ≡ Ok (Snapshot form
 ReadsParts form (Err (Damaged at)) bytes = whole bytes (file_at bytes) ≡ Err at
 ReadsParts form (Err OutOfMemory) bytes = Unit {0}
 
--- the place of this broken rule in the parts that stand in the bytes, up to the greatest u64, unless memory ran out
-abbrev pub IsPlaceOf : ℕ → ℕ → ℕ → FileError → List ℕ → Type 0
-IsPlaceOf form rule index (Damaged at) bytes =
-    (p : Parts) → whole bytes (file_at bytes) ≡ Ok (Snapshot form p) → at ≡ min (place_of_broken form p (record { rule = rule; index = index })) (2 ^ 64 - 1)
-IsPlaceOf form rule index OutOfMemory bytes = Unit {0}
-
 -- the replica that a file says: the one to which a journal's entries have happened, with what waits, after it has dropped what is stable; or the one
 -- with the parts of a snapshot
 abbrev pub seen_in : Content → Seen
@@ -65,6 +61,18 @@ abbrev pub Loads : Result Seen FileError → List ℕ → Type 0
 Loads (Ok r) bytes = (c : Content) × (file_of bytes ≡ Ok c) × IsLoaded r c
 Loads (Err (Damaged at)) bytes = file_of bytes ≡ Err at
 Loads (Err OutOfMemory) bytes = Unit {0}
+
+-- what the bytes say was read: a journal as its replica, a snapshot as its parts, whose rules weren't tested; or the fault of a field has its place,
+-- unless memory ran out
+abbrev pub HasRead : Result FileRead FileError → List ℕ → Type 0
+HasRead (Ok (found.Journal r)) bytes = Loads (Ok r) bytes
+HasRead (Ok (found.Snapshot form p)) bytes = ReadsParts form (Ok p) bytes
+HasRead (Err e) bytes = Loads (Err e) bytes
+
+-- the parts of a snapshot are what reading promises of them
+abbrev pub IsGiven : FileRead → Type 0
+IsGiven (found.Journal r) = Unit {0}
+IsGiven (found.Snapshot form p) = AreGiven p
 
 -- the bytes are the journal of this state, or a snapshot of it, which is legal
 abbrev pub FileStandsFor : List ℕ → State → Type 0

@@ -7,5 +7,5 @@ mod loading;
 mod puts;
 mod saving;
 
-pub use loading::{FileError, decode_file};
+pub use loading::{FileError, decode_file, load_file};
 pub use saving::{SaveError, encode_file};
