@@ -1,5 +1,5 @@
 -- Places as words.
-use Rattle.std.specs.Prelude.{ℕ, ◌+◌, ℤ, pos, ◌-ℤ◌, Bool, ◌==◌, List, [], ◌∷◌, ◌++◌, length, bytes_eq, codes, nat_le, nat_lt, Option, Some, None, option_and_then, if◌then◌else◌}
+use Rattle.std.specs.Prelude.{ℕ, ◌+◌, ℤ, pos, ◌-ℤ◌, Bool, ◌==◌, List, [], ◌∷◌, ◌++◌, length, bytes_eq, codes, nat_lt, Option, Some, None, option_and_then, if◌then◌else◌}
 use Rattle.std.specs.List.{position_or_len, before_first, after_first, slice_split}
 use Rattle.std.specs.Fmt.{decimal}
 use Rattle.rls_ident.specs.declared.limits.TheConstants.{GREATEST_NUMBER, OFFSETS_END}
@@ -8,7 +8,7 @@ use Rattle.rls_ident.specs.declared.tuple.Tuple.TheVariants.{Low, At, High}
 use Rattle.rls_ident.specs.declared.epoch_name.EpochName.{EpochName}
 use Rattle.rls_ident.specs.declared.epoch_name.EpochName.TheVariants.{Origin, Of}
 use Rattle.rls_ident.specs.Identifiers.{first_fault}
-use Rattle.rls_script.specs.Scripts.{number_of}
+use Rattle.rls_script.specs.Scripts.{number_up_to}
 use Rattle.rls_report.specs.Texts.{ident_text}
 use Rattle.rls_anchor.specs.declared.anchor.Anchor.{Anchor}
 use Rattle.rls_anchor.specs.declared.anchor.Anchor.TheVariants.{Beginning, After, Before}
@@ -46,11 +46,11 @@ parts_by is_end bytes = if nat_lt (position_or_len is_end bytes) (length bytes) 
 
 -- a number of a member, of an operation or of a position
 abbrev pub small_of : List ℕ → Option ℕ
-small_of digits = option_and_then (λ n. if nat_le n GREATEST_NUMBER then Some n else None) (number_of digits)
+small_of digits = number_up_to GREATEST_NUMBER digits
 
 -- how far an offset is from 0
 abbrev pub distance_of : List ℕ → Option ℕ
-distance_of digits = option_and_then (λ n. if nat_le n (OFFSETS_END + 1) then Some n else None) (number_of digits)
+distance_of digits = number_up_to (OFFSETS_END + 1) digits
 
 -- less than 0
 abbrev pub below_zero : ℕ → Option ℤ

@@ -6,7 +6,7 @@ ghost use Rattle.rls_places.specs.Words.{distance_of, epoch_of_word, from_zero_o
 use rls_anchor::Anchor;
 use rls_ident::limits::{GREATEST_NUMBER, OFFSETS_END};
 use rls_ident::{EpochName, Ident, IdentError, Tuple};
-use rls_script::number;
+use rls_script::number_up_to;
 use std::alloc::{AllocError, Global};
 
 /// The place that this word names, as `place_word` writes it; `None` exactly where it is no such word. The place need not be in any
@@ -156,24 +156,14 @@ fn distance(digits: &str) -> Option<u32>
     ensures distance { result ≡ distance_of digits.now }
     ensures bounded { IfSome result (λ n. n ≤ OFFSETS_END + 1) }
 {
-    let n = number(digits)?;
-    if n <= OFFSETS_END as u64 + 1 {
-        Some(n as u32)
-    } else {
-        None
-    }
+    number_up_to(OFFSETS_END + 1, digits)
 }
 
 // A number of a member, of an operation or of a position.
 fn small(digits: &str) -> Option<u32>
     ensures small { result ≡ small_of digits.now }
 {
-    let n = number(digits)?;
-    if n <= GREATEST_NUMBER as u64 {
-        Some(n as u32)
-    } else {
-        None
-    }
+    number_up_to(GREATEST_NUMBER, digits)
 }
 
 // What stands before the first colon and after it.

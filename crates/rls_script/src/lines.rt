@@ -55,6 +55,14 @@ impl Lines {
         self.lines.is_empty()
     }
 
+    /// The lines, to be taken one by one.
+    pub fn into_vec(self) -> Vec<Line>
+        ensures lines { result.items ≡ self }
+    {
+        let Lines { lines } = self;
+        lines
+    }
+
     /// The line of this number, counted from 0.
     pub fn get(&self, i: usize) -> &Line
         requires { i < length self.now }

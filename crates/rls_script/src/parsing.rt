@@ -1,9 +1,9 @@
 //! Reading scripts.
 
-ghost use Rattle.std.specs.Prelude.{◌≡◌, ◌<◌, length, IfOk, Option, Some, None, option_map};
-ghost use Rattle.std.specs.List.{position_or_len, before_first, after_first};
+ghost use Rattle.std.specs.Prelude.{◌≡◌, ◌<◌, ◌≤◌, length, IfOk, IfSome, Option, Some, None, option_map};
+ghost use Rattle.std.specs.List.{position, position_or_len, before_first, after_first};
 ghost use Rattle.std.specs.Str.{chars};
-ghost use Rattle.rls_script.specs.Scripts.{IsParsed, script_of, is_line_feed, line_of, line_of_text, insertion_of, deletion_of, backward_of, renaming_of, parts_of, begins_plainly, number_of, text_of, is_opening, meaning_of};
+ghost use Rattle.rls_script.specs.Scripts.{IsParsed, script_of, is_line_feed, line_of, line_of_text, insertion_of, deletion_of, backward_of, renaming_of, is_space, parts_of, begins_plainly, number_of, number_up_to, text_of, is_opening, meaning_of};
 ghost use Rattle.rls_script.specs.declared.parsing.ScriptError.TheVariants.{OutOfMemory};
 
 use crate::lines::{Line, Lines};
@@ -157,11 +157,19 @@ fn renaming(text: &str) -> Option<Line>
     }
 }
 
+// The place of the first space.
+fn first_space(bytes: &[u8]) -> Option<usize>
+    ensures space { result ≡ position is_space bytes.now }
+{
+    bytes.iter().position(|byte| *byte == b' ')
+}
+
 // What stands before the first space and after it.
 fn parts(text: &str) -> Option<(&str, &str)>
     ensures parts { option_map (λ x. (x.0.now, x.1.now)) result ≡ parts_of text.now }
 {
-    text.split_once(' ')
+    let at = first_space(text.as_bytes())?;
+    Some((&text[..at], &text[at + 1..]))
 }
 
 // Whether neither a sign nor a leading zero stands in front.
@@ -184,6 +192,19 @@ pub fn number(digits: &str) -> Option<u64>
         return None;
     }
     digits.parse().ok()
+}
+
+/// The number that `number` reads, if it is at most this one.
+pub fn number_up_to(most: u32, digits: &str) -> Option<u32>
+    ensures value { result ≡ number_up_to most digits.now }
+    ensures within { IfSome result (λ n. n ≤ most) }
+{
+    let n = number(digits)?;
+    if n <= most as u64 {
+        Some(n as u32)
+    } else {
+        None
+    }
 }
 
 // Whether a character is a backslash that waits for the next one, after such a backslash or not.
