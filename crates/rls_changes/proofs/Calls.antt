@@ -4,9 +4,8 @@ use Rattle.std.proofs.lemmas.List.{append-nil}
 use Rattle.std.proofs.Math.Seq.{take-append_seam}
 use Rattle.rls_ops.specs.declared.op.Op.{Op}
 use Rattle.rls_ops.specs.Waiting.{first_ready_at}
-use Rattle.rls_model.specs.Answers.{Reason, reason_of, Answer, Applies, Released}
+use Rattle.rls_model.specs.Answers.{reason_of, reason_in, Reason, Answer, Applies, Released}
 use Rattle.rls_model.specs.declared.receipt.Refusal.{Refusal}
-use Rattle.rls_replica.specs.Releases.{reason_in}
 use Rattle.rls_model.specs.WellFormed.{IsOp}
 use Rattle.rls_seen.specs.Over.{answer_over, first_ready, received, refusal_over, release_over, released}
 use Rattle.rls_seen.specs.Sane.{IsSane, MayApply}

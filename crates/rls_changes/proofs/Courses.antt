@@ -1,6 +1,5 @@
 -- Releases and operations that are taken with their changes, as loops go through them.
 use Rattle.std.proofs.Common.{◌≡◌, ◌∙◌, ℕ, zero, suc, false, true, List, [], ◌∷◌, ◌++◌, length, append_assoc, Option, Some, None, is_some, refl, sym, ap}
-use Rattle.std.specs.Prelude.{reverse}
 use Rattle.std.proofs.lemmas.List.{append-nil}
 use Rattle.rls_ops.specs.declared.op.Op.{Op}
 use Rattle.rls_ops.specs.declared.message.Message.{Message}
@@ -8,14 +7,13 @@ use Rattle.rls_model.specs.declared.receipt.Taken.{Taken}
 use Rattle.rls_model.specs.Answers.{Reason, Answer, Applies, Repeats, Waits, Refuses, Released}
 use Rattle.rls_model.specs.Machine.{Stage, no_counts, started, with_receipt, with_reason, receive_on, with_release_on, release_on, releases_on, release_all_on, take_on}
 use Rattle.rls_model.proofs.Machines.{acknowledge_unlimited, none_ready, ops_limit, release_alike, release_all_alike, releases_limit, releases_stay, taking_alike}
-use Rattle.rls_seen.specs.Messages.{by_parts, with_releases, taken_over, taken_of, take_ops}
+use Rattle.rls_seen.specs.Messages.{by_parts, with_releases, take_ops}
 use Rattle.rls_seen.specs.Messages as messages
 use Rattle.rls_seen.specs.Over.{answer_over, first_ready, received, refusal_over, release_of, release_over, released}
 use Rattle.rls_seen.specs.Sane.{IsSane}
 use Rattle.rls_seen.specs.Seen.{Seen}
 use Rattle.rls_seen.proofs.Repeating.{none_is, one_fewer, released_none, released_seen}
 use Rattle.rls_replica.specs.Steps.{course}
-use Rattle.rls_replica.proofs.Courses.{last_first}
 use Rattle.rls_changes.specs.declared.change.Change.{Change}
 use Rattle.rls_changes.specs.Changes.{changes_over}
 use Rattle.rls_changes.specs.Telling.{if_applied, if_fits, received_changes, ready_changes, released_changes, times_changes, all_released_changes, Told, tells_parts, told_at, told_course, told_within, taken_changes}
@@ -146,6 +144,3 @@ unfolding told_within
 message_told s m =
     let p = take_on tells_parts (started None (told_at s)) m.ops in
     sym (ap (λ (c : Stage (Told Seen)). c.state.changes) (acknowledge_unlimited tells_parts p m.from m.vector (ops_limit tells_parts m.ops (started None (told_at s)) refl)))
-
-pub next_told : (xs ys : List Op) (o : Op) (c : Stage (Told Seen)) → xs ≡ ys ++ o ∷ [] → take_on tells_parts c (reverse xs) ≡ take_on tells_parts (release_all_on tells_parts (receive_on tells_parts c o)) (reverse ys)
-next_told xs ys o c e = ap (take_on tells_parts c) (last_first xs ys o e)

@@ -8,6 +8,7 @@ use Rattle.rls_model.specs.declared.edit.Edit.TheVariants as edits
 use Rattle.rls_model.specs.declared.edit.EditError.{EditError}
 use Rattle.rls_model.specs.WellFormed.{IsEdit}
 use Rattle.rls_model.proofs.Made.{or_none}
+use Rattle.rls_model.specs.Laws.{AreEdits}
 use Rattle.rls_seen.specs.Edits.{edit_fault_over, edited}
 use Rattle.rls_seen.specs.Sane.{IsSane}
 use Rattle.rls_seen.specs.Seen.{Seen, idents_over, own_count, text_over}
@@ -19,7 +20,6 @@ use Rattle.rls_undo.specs.declared.entry.Entry.{Entry}
 use Rattle.rls_undo.specs.declared.entry.Entry.TheVariants.{Inserted, Removed}
 use Rattle.rls_undo.specs.Plans.{deletion, places_from, ranges_of}
 use Rattle.rls_undo.specs.Undoing.{planned_over, plan_over, performed_over, refusal_over, unless, IsPart}
-use Rattle.rls_undo.specs.UndoLaws.{AreEdits}
 use Rattle.rls_undo.proofs.Performed.{own_more}
 use Rattle.rls_changes.specs.declared.change.Change.{Change}
 use Rattle.rls_changes.specs.Changes.{played}

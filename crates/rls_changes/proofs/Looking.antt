@@ -39,7 +39,7 @@ use Rattle.rls_changes.specs.declared.change.Change.TheVariants.{Insert, Delete}
 use Rattle.rls_changes.specs.Changes.{deleted_by, with_change, with_changes, changes_by, cuts, puts}
 use Rattle.rls_changes.proofs.Joining.{deleted_all}
 use Rattle.rls_changes.specs.Places.{AreAt, AreMissing}
-use Rattle.rls_changes.proofs.Putting.{at_end, at_gap, next_puts}
+use Rattle.rls_changes.proofs.Putting.{at_end, at_gap, next_puts, more_take}
 use Rattle.rls_changes.proofs.Cutting.{cut_count, cut_missing, cuts_delete, few_cut, next_cut, none_cut}
 
 -- ---- by what a search tells
@@ -211,11 +211,6 @@ module _ (xs ts : List (List Tuple)) (at place : ℕ) (x : List Tuple) (r : Risi
       let above : AllMore y (drop place xs) = subst (AllMore y) (sym e) tt in
       (ap (λ ws. has_ident ws y) (sym halves) ∙ missing_between (take place xs) (drop place xs) y (less_trans (take place xs) x y before a.0) above, none_behind ys e a.1)
 
-  more_front : (n : ℕ) (ys : List (List Tuple)) → AllMore x ys → AllMore x (take n ys)
-  more_front zero ys h = tt
-  more_front (suc n) [] h = tt
-  more_front (suc n) (y ∷ ys) h = (h.0, more_front n ys h.1)
-
   first_and : (k n : ℕ) → n ≡ suc k → AreMissing (take k (drop (at + 1) ts)) xs → AreMissing (take n (drop at ts)) xs
   first_and k n e h = subst (λ ys. AreMissing ys xs) (sym (ap (take n) reads ∙ ap (λ i. take i (x ∷ drop (at + 1) ts)) e)) (none, h)
 
@@ -223,7 +218,7 @@ module _ (xs ts : List (List Tuple)) (at place : ℕ) (x : List Tuple) (r : Risi
   missing_rest l =
       let w : at < length ts = slice_get_within ts at x there in
       let e : drop place xs ≡ [] = drop_of_length-le xs l in
-      first_and (length ts - at - 1) (length ts - at) (omega (arith, w)) (none_behind (take (length ts - at - 1) (drop (at + 1) ts)) e (more_front (length ts - at - 1) (drop (at + 1) ts) later))
+      first_and (length ts - at - 1) (length ts - at) (omega (arith, w)) (none_behind (take (length ts - at - 1) (drop (at + 1) ts)) e (more_take x (length ts - at - 1) (drop (at + 1) ts) later))
 
   -- z comes behind x in the text
   above_it : (z : List Tuple) → slice_get xs place ≡ Some z → Lt tuples x z
@@ -239,7 +234,7 @@ module _ (xs ts : List (List Tuple)) (at place : ℕ) (x : List Tuple) (r : Risi
       let f : at + 1 + n ≡ below_count ts z = omega (arith, l) in
       let part : drop (at + 1) (take (below_count ts z) ts) ≡ take n (drop (at + 1) ts) = ap (λ k. drop (at + 1) (take k ts)) (sym f) ∙ drop-take (at + 1) n ts in
       let less : AllLess (take n (drop (at + 1) ts)) z = subst (λ ys. AllLess ys z) part (less_drop (at + 1) (take (below_count ts z) ts) z (below_take ts z s)) in
-      first_and n (below_count ts z - at) (omega (arith, l)) (all_missing (take n (drop (at + 1) ts)) z (drop (place + 1) xs) (drop_reads xs place z g) (more_front n (drop (at + 1) ts) later) less)
+      first_and n (below_count ts z - at) (omega (arith, l)) (all_missing (take n (drop (at + 1) ts)) z (drop (place + 1) xs) (drop_reads xs place z g) (more_take x n (drop (at + 1) ts) later) less)
 
 -- ---- for calls
 

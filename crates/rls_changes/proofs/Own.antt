@@ -6,7 +6,7 @@ use Rattle.rls_ident.specs.declared.tuple.Tuple.{Tuple}
 use Rattle.rls_ident.specs.Lists.{IsIn}
 use Rattle.rls_ident.proofs.Agreeing.{map_itself}
 use Rattle.rls_ident.proofs.Lists.{Lt}
-use Rattle.rls_ident.proofs.Members.{eq_not, in_drop, in_left, in_take}
+use Rattle.rls_ident.proofs.Members.{in_drop, in_left, in_take, not_zero}
 use Rattle.rls_ident.proofs.Tuples.{tuples}
 use Rattle.rls_rename.proofs.Growth.{translate_same}
 use Rattle.rls_runs.specs.Entries.{Entries, idents_in, chars_in}
@@ -66,11 +66,8 @@ at_from : (g : ℕ) (xs : List (List Tuple)) (es : Entries) → ((y : Entry) →
 at_from g xs [] f = tt
 at_from g xs (e ∷ es) f = (f e (inl refl), at_from g xs es (λ y p. f y (inr p)))
 
-some_chars : (s : Seen) (at : ℕ) (cs : List ℕ) → edit_fault_over s (edits.Insert at cs) ≡ None → 0 < length cs
-some_chars s at cs h =
-    let p = none_else (length cs == 0) faults.EmptyEdit _ (range_none s (edits.Insert at cs) h) in
-    let n = eq_not (length cs) 0 p.0 in
-    omega arith
+pub some_chars : (s : Seen) (at : ℕ) (cs : List ℕ) → edit_fault_over s (edits.Insert at cs) ≡ None → 0 < length cs
+some_chars s at cs h = not_zero (length cs) (none_else (length cs == 0) faults.EmptyEdit _ (range_none s (edits.Insert at cs) h)).0
 
 own_insert : (s : Seen) (at : ℕ) (cs : List ℕ) → IsSane s → IsEdit (edits.Insert at cs) → edit_fault_over s (edits.Insert at cs) ≡ None
     → with_changes [] (puts 0 (idents_over s) (added_over s (greatest_over s) (first_made s at (length cs)) cs)) ≡ Insert at cs ∷ []
@@ -87,11 +84,8 @@ own_insert s at cs sane i h =
 
 -- ---- a deletion
 
-some_count : (s : Seen) (at n : ℕ) → edit_fault_over s (edits.Delete at n) ≡ None → 0 < n
-some_count s at n h =
-    let p = none_else (n == 0) faults.EmptyEdit _ (range_none s (edits.Delete at n) h) in
-    let k = eq_not n 0 p.0 in
-    omega arith
+pub some_count : (s : Seen) (at n : ℕ) → edit_fault_over s (edits.Delete at n) ≡ None → 0 < n
+some_count s at n h = not_zero n (none_else (n == 0) faults.EmptyEdit _ (range_none s (edits.Delete at n) h)).0
 
 own_delete : (s : Seen) (at n : ℕ) → IsSane s → edit_fault_over s (edits.Delete at n) ≡ None
     → with_changes [] (cuts 0 (map (placed_over s (greatest_over s)) (take n (drop at (idents_over s)))) (idents_over s)) ≡ Delete at n ∷ []

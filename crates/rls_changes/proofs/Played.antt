@@ -45,7 +45,7 @@ insert_plays s o first text sane m e =
     (λ x z p q h. n.new x.0 (subst (IsIn x.0) ids (map_in (λ (y : Entry). y.0) x es p)) (subst (λ y. IsIn y (idents_over s)) (sym h) (map_in (λ (y : Entry). y.0) z s.text q)))
     (λ x p. omega arith)
 
-chars_with : (f : List Tuple → List Tuple) (es : Entries) → chars_in (with_idents f es) ≡ chars_in es
+pub chars_with : (f : List Tuple → List Tuple) (es : Entries) → chars_in (with_idents f es) ≡ chars_in es
 chars_with f [] = refl
 chars_with f (e ∷ es) = ap (λ cs. e.1 ∷ cs) (chars_with f es)
 

@@ -164,6 +164,11 @@ all_at_end : (xs : List (List Tuple)) (x : List Tuple) (ys : List (List Tuple)) 
 all_at_end xs x [] g a = tt
 all_at_end xs x (y ∷ ys) g a = (let k = count_rises xs x y a.0 in let l = count_most xs y in omega arith, all_at_end xs x ys g a.1)
 
+pub more_take : (x : List Tuple) (n : ℕ) (ys : List (List Tuple)) → AllMore x ys → AllMore x (take n ys)
+more_take x zero ys h = tt
+more_take x (suc n) [] h = tt
+more_take x (suc n) (y ∷ ys) h = (h.0, more_take x n ys h.1)
+
 -- the identifiers from x on, of a rising list that has it at a place
 module _ (xs ids : List (List Tuple)) (at : ℕ) (x : List Tuple) (r : Rising xs) (s : Rising ids) (there : slice_get ids at ≡ Some x) where
   reads : drop at ids ≡ x ∷ drop (at + 1) ids
@@ -172,11 +177,6 @@ module _ (xs ids : List (List Tuple)) (at : ℕ) (x : List Tuple) (r : Rising xs
   later : AllMore x (drop (at + 1) ids)
   later = (subst Rising reads (rising_drop at ids s)).0
 
-  more_take : (n : ℕ) (ys : List (List Tuple)) → AllMore x ys → AllMore x (take n ys)
-  more_take zero ys h = tt
-  more_take (suc n) [] h = tt
-  more_take (suc n) (y ∷ ys) h = (h.0, more_take n ys h.1)
-
   -- one, and m after it
   first_and : (m n : ℕ) → n ≡ suc m → AreAt (below_count xs x) xs (take m (drop (at + 1) ids)) → AreAt (below_count xs x) xs (take n (drop at ids))
   first_and m n e h = subst (AreAt (below_count xs x) xs) (sym (ap (take n) reads ∙ ap (λ k. take k (x ∷ drop (at + 1) ids)) e)) (refl, h)
@@ -184,7 +184,7 @@ module _ (xs ids : List (List Tuple)) (at : ℕ) (x : List Tuple) (r : Rising xs
   pub at_end : below_count xs x ≡ length xs → AreAt (below_count xs x) xs (take (length ids - at) (drop at ids))
   at_end g =
       let l : at < length ids = slice_get_within ids at x there in
-      first_and (length ids - at - 1) (length ids - at) (omega (arith, l)) (all_at_end xs x (take (length ids - at - 1) (drop (at + 1) ids)) g (more_take (length ids - at - 1) (drop (at + 1) ids) later))
+      first_and (length ids - at - 1) (length ids - at) (omega (arith, l)) (all_at_end xs x (take (length ids - at - 1) (drop (at + 1) ids)) g (more_take x (length ids - at - 1) (drop (at + 1) ids) later))
 
   pub at_gap : (z : List Tuple) (end : ℕ) → slice_get xs (below_count xs x) ≡ Some z → end ≡ max (below_count ids z) (at + 1) → AreAt (below_count xs x) xs (take (end - at) (drop at ids))
   at_gap z end g e = bool_cases (nat_lt (at + 1) (below_count ids z))
@@ -193,5 +193,5 @@ module _ (xs ids : List (List Tuple)) (at : ℕ) (x : List Tuple) (r : Rising xs
       let f : at + 1 + n ≡ below_count ids z = omega (arith, l) in
       let part : drop (at + 1) (take (below_count ids z) ids) ≡ take n (drop (at + 1) ids) = ap (λ k. drop (at + 1) (take k ids)) (sym f) ∙ drop-take (at + 1) n ids in
       let less : AllLess (take n (drop (at + 1) ids)) z = subst (λ ys. AllLess ys z) part (less_drop (at + 1) (take (below_count ids z) ids) z (below_take ids z s)) in
-      first_and n (end - at) (omega (arith, l, e)) (all_at xs x z (take n (drop (at + 1) ids)) r g (more_take n (drop (at + 1) ids) later) less))
+      first_and n (end - at) (omega (arith, l, e)) (all_at xs x z (take n (drop (at + 1) ids)) r g (more_take x n (drop (at + 1) ids) later) less))
       (λ h. let l = not_lt_is (at + 1) (below_count ids z) h in first_and 0 (end - at) (omega (arith, l, e)) tt)

@@ -4,12 +4,12 @@ use Rattle.rls_model.specs.declared.edit.Edit.{Edit}
 use Rattle.rls_model.specs.declared.edit.Edit.TheVariants as edits
 use Rattle.rls_model.specs.Editing.{made, edit_fault}
 use Rattle.rls_model.specs.Receiving.{State, accept}
+use Rattle.rls_model.specs.Laws.{AreEdits}
 use Rattle.rls_seen.specs.Edits.{edit_fault_over, edited}
 use Rattle.rls_seen.specs.Sane.{IsSane}
 use Rattle.rls_seen.specs.Seen.{Seen, text_over}
 use Rattle.rls_seen.specs.Stands.{StandsFor}
 use Rattle.rls_undo.specs.Undoing.{performed_over, refusal_over, unless}
-use Rattle.rls_undo.specs.UndoLaws.{AreEdits}
 use Rattle.rls_changes.specs.declared.change.Change.{Change}
 use Rattle.rls_changes.specs.Changes.{played, inserted_by, deleted_by}
 use Rattle.rls_changes.specs.ChangesLaws.{own_changes}

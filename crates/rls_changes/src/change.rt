@@ -56,7 +56,7 @@ fn push_both(
 {
     let mut before = before;
     if at >= first && at - first == before.len() as u64 {
-        before.append(text)?;
+        before.append(&text)?;
         changes.push(Change::Insert {
             at: first,
             text: before,

@@ -6,13 +6,14 @@ ghost use Rattle.rls_ident.specs.declared.tuple.Tuple.{Tuple};
 ghost use Rattle.rls_model.specs.declared.edit.EditError.{EditError};
 ghost use Rattle.rls_model.specs.Receiving.{State};
 ghost use Rattle.rls_model.specs.WellFormed.{IsEdit};
+ghost use Rattle.rls_model.specs.Laws.{AreEdits};
 ghost use Rattle.rls_seen.specs.Seen.{own_count, text_over};
 ghost use Rattle.rls_seen.specs.Stands.{StandsFor};
 ghost use Rattle.rls_replica.specs.Names.{keeps, KeepsNames};
 ghost use Rattle.rls_undo.specs.declared.entry.Entry.{Entry};
 ghost use Rattle.rls_undo.specs.declared.entry.Entry.TheVariants.{Removed};
 ghost use Rattle.rls_undo.specs.Undoing.{planned, planned_over, plan_over, performed, performed_over, refusal_over, undone_by, last_of, without_last, epoch_of, IsPart};
-ghost use Rattle.rls_undo.specs.UndoLaws.{AreEdits, IsUndone};
+ghost use Rattle.rls_undo.specs.UndoLaws.{IsUndone};
 ghost use Rattle.rls_changes.specs.ChangesLaws.{own_changes, Lead};
 ghost use Rattle.rls_changes.specs.Edits.{edit_changes, performed_edits, IsToldPart};
 

@@ -1,6 +1,6 @@
 //! What an operation would change, looked for before it is accepted.
 
-ghost use Rattle.std.specs.Prelude.{◌≡◌, ◌+◌, ◌-◌, ◌<◌, ◌≤◌, ℕ, List, [], length, map, take, drop, zip, slice_get, Some, None, Ok, Err, IfOk, IsTrue, IsFalse, true};
+ghost use Rattle.std.specs.Prelude.{◌≡◌, ◌+◌, ◌-◌, ◌<◌, ◌≤◌, List, [], length, map, take, drop, zip, slice_get, Some, None, Ok, Err, IfOk, IsTrue, IsFalse, true};
 ghost use Rattle.rls_ident.specs.declared.limits.TheConstants.{CHARACTERS};
 ghost use Rattle.rls_ident.specs.declared.tuple.Tuple.{Tuple};
 ghost use Rattle.rls_ops.specs.Shapes.{shape_fault};
@@ -277,24 +277,8 @@ fn stretch(replica: &Replica, targets: &Runs, at: u64, place: u64) -> Result<u64
     let standing = replica.tree().standing(run, from)? as u64;
     let most = standing.max(1).min(replica.total() - place);
     let there = replica.tree().runs_of(place, most)?;
-    let count = common(targets, at, &there);
+    let count = targets.count_common(at, &there, 0);
     Ok(count)
-}
-
-// How many identifiers from a place on, within their run, are those with which another list begins.
-fn common(ids: &Runs, at: u64, others: &Runs) -> u64
-    requires place { at < length ids.now }
-    requires some { 0 < length others.now }
-    requires same { slice_get ids.now at ≡ slice_get others.now 0 }
-    ensures some { 0 < result }
-    ensures within { at + result ≤ length ids.now }
-    ensures other_within { result ≤ length others.now }
-    ensures same { (k : ℕ) → k < result → slice_get ids.now (at + k) ≡ slice_get others.now (0 + k) }
-{
-    rely!(let (_ids, _others) = (ids.total(), others.total()));
-    let (run, start) = ids.locate(at);
-    let (other, from) = others.locate(0);
-    (run.len() - start).min(other.len() - from) as u64
 }
 
 // The place after those of the targets, from one that isn't in the text on, that go in front of the same identifier of the text.

@@ -2,12 +2,12 @@
 
 ghost use Rattle.std.specs.Prelude.{◌≡◌, ◌++◌, [], false, Some, None, IfOk, OnOk, OnErr, IsTrue, IsFalse};
 ghost use Rattle.rls_ops.specs.declared.op.Op.{Op as OpSeen};
-ghost use Rattle.rls_model.specs.Answers.{answer_of, Applies, Reason};
+ghost use Rattle.rls_model.specs.Answers.{answer_of, reason_in, Applies, Reason};
 ghost use Rattle.rls_seen.specs.Over.{answer_over, first_ready, received, release_over, released};
 ghost use Rattle.rls_seen.specs.Sane.{MayApply};
 ghost use Rattle.rls_seen.specs.Seen.{text_over};
 ghost use Rattle.rls_replica.specs.Names.{KeepsNames};
-ghost use Rattle.rls_replica.specs.Releases.{reason_in, release_in};
+ghost use Rattle.rls_replica.specs.Releases.{release_in};
 ghost use Rattle.rls_changes.specs.Changes.{changes_over};
 ghost use Rattle.rls_changes.specs.Telling.{received_changes, released_changes};
 ghost use Rattle.rls_changes.specs.ChangesLaws.{Lead};

@@ -1,9 +1,8 @@
 //! Messages that are taken, and releases until none is ready, with what they change.
 
-ghost use Rattle.std.specs.Prelude.{◌≡◌, ◌+◌, ◌-◌, ◌^◌, ◌<◌, ◌≤◌, ◌↔◌, ◌∷◌, ◌++◌, [], List, ℕ, length, Some, None, is_some, IfOk, OnOk, OnErr, IsErrOf};
+ghost use Rattle.std.specs.Prelude.{◌≡◌, ◌+◌, ◌<◌, ◌≤◌, ◌↔◌, ◌∷◌, ◌++◌, [], List, ℕ, length, Some, None, is_some, IfOk, OnOk, OnErr, IsErrOf};
 ghost use Rattle.rls_ops.specs.declared.op.Op.{Op};
-ghost use Rattle.rls_model.specs.Answers.{answer_of};
-ghost use Rattle.rls_model.specs.Machine.{no_counts, receive_on, release_on, release_all_on, take_on};
+ghost use Rattle.rls_model.specs.Machine.{no_counts, HasRoom, receive_on, release_on, release_all_on, take_on};
 ghost use Rattle.rls_model.specs.Receiving.{State};
 ghost use Rattle.rls_model.specs.Taking.{take_message, take_within};
 ghost use Rattle.rls_model.specs.Taking as model;
@@ -12,8 +11,7 @@ ghost use Rattle.rls_seen.specs.Over.{release_over, released, released_all, IsPa
 ghost use Rattle.rls_seen.specs.Sane.{IsSane};
 ghost use Rattle.rls_seen.specs.Messages.{with_releases, taken_over, taken_of, IsPartTaken};
 ghost use Rattle.rls_seen.specs.Stands.{StandsFor};
-ghost use Rattle.rls_replica.specs.Releases.{reason_in};
-ghost use Rattle.rls_replica.specs.Steps.{course, CountsReleased, IsPartOfOps, HasRoom, AreFew, IsOnWay, with_receipt, with_reason};
+ghost use Rattle.rls_replica.specs.Steps.{course, CountsReleased, IsPartOfOps, AreFew, IsOnWay};
 ghost use Rattle.rls_replica.specs.Names.{KeepsNames};
 ghost use Rattle.rls_replica.specs.Faults.{IsForeign};
 ghost use Rattle.rls_changes.specs.Telling.{all_released_changes, taken_changes, tells_parts, told_course};
@@ -23,7 +21,7 @@ use crate::change::Change;
 use crate::receiving::{receive, release};
 use rls_ident::rely;
 use rls_ops::{Message, Op, Ops};
-use rls_replica::{Receipt, Release, Replica, TakeError, Taken};
+use rls_replica::{Replica, TakeError, Taken};
 use std::alloc::AllocError;
 
 /// Releases until no waiting operation is ready, as `Replica::release_all` does, and puts what that changes in the text after the other
@@ -70,7 +68,7 @@ fn release_one(
     match release(replica, changes)? {
         None => Ok(false),
         Some(release) => {
-            count_release(release, taken)?;
+            taken.count_release(release)?;
             Ok(true)
         }
     }
@@ -96,7 +94,7 @@ fn take_one(
     let (author, seq) = (op.author, op.seq);
     let receipt = receive(replica, op, changes)?;
     rely!(replica.sane());
-    count_receipt(author, seq, receipt, taken)?;
+    taken.count_receipt(author, seq, receipt)?;
     release_all(replica, taken, changes)?;
     Ok(())
 }
@@ -108,9 +106,8 @@ fn take_ops(replica: &mut Replica, ops: Ops, changes: &mut Vec<Change>) -> Resul
     ensures lead { Lead changes.old.items changes.new.items (text_over replica.old) (text_over replica.new) }
 {
     let mut taken = Taken::new(*changes.allocator());
-    let mut rest = ops.into_vec();
-    rest.reverse();
-    'taking: while let Some(op) = rest.pop() {
+    let mut rest = ops.into_remaining();
+    'taking: while let Some(op) = rest.pop_first() {
         take_one(replica, op, &mut taken, changes)?;
     }
     Ok(taken)
@@ -163,44 +160,4 @@ pub fn take(
     let taken = take_ops(replica, ops, changes)?;
     replica.acknowledge(from, &vector);
     Ok(taken)
-}
-
-// Counts an operation that arrived. After an error nothing is counted.
-fn count_receipt(
-    author: u32,
-    seq: u32,
-    receipt: Receipt,
-    taken: &mut Taken,
-) -> Result<(), AllocError>
-    requires room { HasRoom taken.old }
-    ensures ok { OnOk result (taken.new ≡ with_receipt taken.old author seq (answer_of receipt)) }
-    ensures err { OnErr result (taken.new ≡ taken.old) }
-{
-    match receipt {
-        Receipt::Applied => taken.applied += 1,
-        Receipt::Repeated => taken.repeated += 1,
-        Receipt::Held => taken.held += 1,
-        Receipt::Refused(refusal) => return taken.refused.push(author, seq, refusal),
-    }
-    Ok(())
-}
-
-// Counts an operation that was released. After an error nothing is counted.
-fn count_release(release: Release, taken: &mut Taken) -> Result<(), AllocError>
-    requires room { taken.old.released < 2 ^ 64 - 1 }
-    ensures ok { OnOk result (taken.new ≡ with_reason taken.old release.author release.seq (reason_in release.refusal)) }
-    ensures err { OnErr result (taken.new ≡ taken.old) }
-{
-    let Release {
-        author,
-        seq,
-        refusal,
-    } = release;
-    match refusal {
-        None => {
-            taken.released += 1;
-            Ok(())
-        }
-        Some(refusal) => taken.refused.push(author, seq, refusal),
-    }
 }

@@ -17,38 +17,33 @@ use std::alloc::AllocError;
 /// How far before a position its grapheme cluster is looked for first, in characters.
 const FIRST_REACH: u64 = 8;
 
-/// Performs a line: makes the edit that it means. After an error the replica is as before.
+/// Performs a line: makes the edit that it means. After an error the replica is as before. The text of an insertion is moved, and
+/// isn't copied.
 ///
 /// The time is that of the edit. A line `b` also reads the text before its position, at most four times as far as to the last
 /// character before the cluster past which no rule on clusters looks, and a few characters more; each costs a step for each level
 /// of the tree.
-pub fn perform_line(replica: &mut Replica, line: &Line) -> Result<(), LineError>
-    ensures made { OnOk result (IsEdited replica.old (read_line replica.old line.now) replica.new) }
-    ensures refused { IfErr result (λ e. IsRefused e (read_line replica.old line.now)) }
+pub fn perform_line(replica: &mut Replica, line: Line) -> Result<(), LineError>
+    ensures made { OnOk result (IsEdited replica.old (read_line replica.old line) replica.new) }
+    ensures refused { IfErr result (λ e. IsRefused e (read_line replica.old line)) }
     ensures err { OnErr result (replica.new ≡ replica.old) }
 {
     match edit_of(replica, line) {
         Err(error) => Err(error),
-        Ok(edit) => perform_edit(replica, &edit),
+        Ok(edit) => perform_edit(replica, edit),
     }
 }
 
-/// The edit that a line means, whether or not it is allowed. A line `b` that deletes no grapheme cluster is refused here, with the
-/// place at fault.
-pub fn edit_of(replica: &Replica, line: &Line) -> Result<Edit, LineError>
-    ensures meant { IfOk result (λ edit. read_line replica.now line.now ≡ allowed replica.now edit) }
-    ensures refused { IfErr result (λ e. IsRefused e (read_line replica.now line.now)) }
+/// The edit that a line means, whether or not it is allowed. It has the line's text itself. A line `b` that deletes no grapheme cluster
+/// is refused here, with the place at fault.
+pub fn edit_of(replica: &Replica, line: Line) -> Result<Edit, LineError>
+    ensures meant { IfOk result (λ edit. read_line replica.now line ≡ allowed replica.now edit) }
+    ensures refused { IfErr result (λ e. IsRefused e (read_line replica.now line)) }
 {
     match line {
-        Line::Insert { at, text } => match text.copy() {
-            Ok(text) => Ok(Edit::Insert { at: *at, text }),
-            Err(_) => Err(LineError::OutOfMemory),
-        },
-        Line::Delete { at, count } => Ok(Edit::Delete {
-            at: *at,
-            count: *count,
-        }),
-        Line::Back { at } => backward(replica, *at),
+        Line::Insert { at, text } => Ok(Edit::Insert { at, text }),
+        Line::Delete { at, count } => Ok(Edit::Delete { at, count }),
+        Line::Back { at } => backward(replica, at),
         Line::Rename => Ok(Edit::Rename),
     }
 }
@@ -92,13 +87,13 @@ fn cluster_at(replica: &Replica, at: u64) -> Result<Result<u64, ClusterError>, A
     }
 }
 
-/// Makes an edit. After an error the replica is as before.
-pub fn perform_edit(replica: &mut Replica, edit: &Edit) -> Result<(), LineError>
-    ensures made { OnOk result (IsEdited replica.old (allowed replica.old edit.now) replica.new) }
-    ensures refused { IfErr result (λ e. IsRefused e (allowed replica.old edit.now)) }
+/// Makes an edit, whose text is moved and isn't copied. After an error the replica is as before.
+pub fn perform_edit(replica: &mut Replica, edit: Edit) -> Result<(), LineError>
+    ensures made { OnOk result (IsEdited replica.old (allowed replica.old edit) replica.new) }
+    ensures refused { IfErr result (λ e. IsRefused e (allowed replica.old edit)) }
     ensures err { OnErr result (replica.new ≡ replica.old) }
 {
-    match replica.edit(edit) {
+    match replica.perform(edit) {
         Ok(_) => Ok(()),
         Err(error) => Err(LineError::from(error)),
     }

@@ -16,7 +16,7 @@ use rls_ident::rely;
 use rls_io::{Found, Keeper, LoadError};
 use rls_replica::Replica;
 use rls_report::CommandError;
-use rls_store::{FileError, decode_file};
+use rls_store::{FileError, load_file};
 use std::alloc::Global;
 
 /// The bytes of the kept file, if there is one. It is too large with more than 268,435,456 bytes. The keeper's file stays as it is.
@@ -60,19 +60,19 @@ pub fn open<K: Keeper>(alloc: Global, keeper: &mut K) -> Result<Replica, OpenErr
         Ok(None) => Err(OpenError::Command {
             error: CommandError::NoReplica,
         }),
-        Ok(Some(bytes)) => decoded(alloc, &bytes),
+        Ok(Some(bytes)) => decoded(alloc, bytes),
     }
 }
 
-// The replica that these bytes say.
-fn decoded(alloc: Global, bytes: &[u8]) -> Result<Replica, OpenError>
-    ensures replica { Gives of_open (λ replica. replica) result (replica_of (file_of bytes.now)) }
+// The replica that these bytes say. They are given up as soon as they are read.
+fn decoded(alloc: Global, bytes: Vec<u8>) -> Result<Replica, OpenError>
+    ensures replica { Gives of_open (λ replica. replica) result (replica_of (file_of bytes.items)) }
     ensures sane { IfOk result IsSane }
     ensures writable { IfOk result AreWritable }
     ensures memory { result ≢ Err OpenError.KeeperFault }
     ensures errors { IfErr result IsOpenError }
 {
-    match decode_file(alloc, bytes) {
+    match load_file(alloc, bytes) {
         Ok(replica) => {
             rely!(replica.sane());
             Ok(replica)

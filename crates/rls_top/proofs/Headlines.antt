@@ -25,7 +25,6 @@ use Rattle.rls_model.specs.Receiving.{State}
 use Rattle.rls_model.specs.Taking.{Progress, message_for, take_message}
 use Rattle.rls_seen.specs.Kept.{parts_over}
 use Rattle.rls_seen.specs.Messages.{Course, taken_over}
-use Rattle.rls_seen.specs.Messages as seen
 use Rattle.rls_seen.specs.Seen.{Seen, fresh, members, idents_over}
 use Rattle.rls_seen.specs.Stands.{StandsFor}
 use Rattle.rls_seen.proofs.Alike.{greatest_alike, members_alike}

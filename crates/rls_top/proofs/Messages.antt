@@ -1,5 +1,5 @@
 -- Messages, for a replica or for another group.
-use Rattle.std.proofs.Common.{◌≡◌, ◌<◌, ℕ, [], ◌∷◌, length, Result, Ok, refl, subst, arith}
+use Rattle.std.proofs.Common.{◌≡◌, ℕ, length, Result, Ok, refl, subst}
 use Rattle.rls_ops.specs.declared.message.Message.{Message}
 use Rattle.rls_replica.specs.Faults.{IsForeign}
 use Rattle.rls_model.specs.declared.receipt.Taken.{Taken}

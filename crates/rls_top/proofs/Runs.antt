@@ -1,6 +1,5 @@
 -- Runs of lines, step by step.
-use Rattle.std.proofs.Common.{◌≡◌, ◌∙◌, ◌+◌, ◌≤◌, ℕ, suc, List, [], ◌∷◌, drop, sum, Some, Result, refl, sym, ap, subst, slice_get, arith}
-use Rattle.rls_ident.proofs.Loops.{drop_reads}
+use Rattle.std.proofs.Common.{◌≡◌, ◌+◌, ◌≤◌, ℕ, suc, List, [], ◌∷◌, length, sum, Result, refl, sym, ap, subst, arith}
 use Rattle.rls_ident.proofs.Vectors.{sum-raise_le}
 use Rattle.rls_model.specs.declared.edit.Edit.{Edit}
 use Rattle.rls_model.specs.declared.edit.Edit.TheVariants as edits
@@ -46,45 +45,43 @@ counted_on s new meant n e h =
 -- ---- one line after another
 
 -- the run begins with nothing counted
-pub run_begins : {L : Type 0} (reads : Reading L) (s : Seen) (found : Taken) (lines : List L) → found ≡ nothing → run_on by_parts reads (0 + 1) (course s found) (drop 0 lines) ≡ run_lines reads s lines
+pub run_begins : {L : Type 0} (reads : Reading L) (s : Seen) (found : Taken) (lines : List L) → found ≡ nothing → run_on by_parts reads (0 + 1) (course s found) lines ≡ run_lines reads s lines
 unfolding run_lines
 run_begins reads s found lines e = rw e refl
 
--- what is left is the line and what comes behind it
-run_reads : {L : Type 0} (reads : Reading L) (n : ℕ) (c : Course) (lines : List L) (i : ℕ) (line : L) (run : Run Seen LineFault) → slice_get lines i ≡ Some line → run_on by_parts reads n c (drop i lines) ≡ run
-    → go_on n (reads c.state line) (λ edit. run_on by_parts reads (suc n) (with_releases (edit_step c edit)) (drop (i + 1) lines)) ≡ run
-run_reads {L} reads n c lines i line run s e = sym (ap (λ (ls : List L). run_on by_parts reads n c ls) (drop_reads lines i line s)) ∙ e
-
 -- a refused line stops the run, and the command
-pub run_stops : {L : Type 0} (reads : Reading L) (n : ℕ) (c : Course) (lines : List L) (i : ℕ) (line : L) (run : Run Seen LineFault) (e : LineError) → slice_get lines i ≡ Some line
-    → run_on by_parts reads n c (drop i lines) ≡ run → IsRefused e (reads c.state line) → (k : ℕ) → EndsAs (of_work (at_line n e)) (due_of_run k run)
-run_stops {L} reads n c lines i line run OutOfMemory s h refused k = tt
-run_stops {L} reads n c lines i line run (Refused fault) s h refused k =
-    let rest : Edit → Run Seen LineFault = λ edit. run_on by_parts reads (suc n) (with_releases (edit_step c edit)) (drop (i + 1) lines) in
-    let at_stop = run_reads reads n c lines i line run s h in
-    let stopped : Stopped n fault ≡ run = subst (λ (m : Result Edit LineFault). go_on n m rest ≡ run) refused at_stop in
+pub run_stops : {L : Type 0} (reads : Reading L) (n : ℕ) (c : Course) (line : L) (rest : List L) (run : Run Seen LineFault) (e : LineError)
+    → run_on by_parts reads n c (line ∷ rest) ≡ run → IsRefused e (reads c.state line) → (k : ℕ) → EndsAs (of_work (at_line n e)) (due_of_run k run)
+run_stops {L} reads n c line rest run OutOfMemory h refused k = tt
+run_stops {L} reads n c line rest run (Refused fault) h refused k =
+    let later : Edit → Run Seen LineFault = λ edit. run_on by_parts reads (suc n) (with_releases (edit_step c edit)) rest in
+    let stopped : Stopped n fault ≡ run = subst (λ (m : Result Edit LineFault). go_on n m later ≡ run) refused h in
     sym (ap (due_of_run k) stopped)
 
 -- an accepted line, with what it makes ready, goes on
-pub run_goes_on : {L : Type 0} (reads : Reading L) (n m i : ℕ) (s new after : Seen) (found last : Taken) (lines : List L) (line : L) (run : Run Seen LineFault)
-    → m ≡ suc n → slice_get lines i ≡ Some line → run_on by_parts reads n (course s found) (drop i lines) ≡ run → IsEdited s (reads s line) new → course after last ≡ with_releases (course new found)
-    → run_on by_parts reads m (course after last) (drop (i + 1) lines) ≡ run
-run_goes_on {L} reads n m i s new after found last lines line run one_more get h e released =
-    let rest : Edit → Run Seen LineFault = λ edit. run_on by_parts reads (suc n) (with_releases (edit_step (course s found) edit)) (drop (i + 1) lines) in
-    let at_line = run_reads reads n (course s found) lines i line run get h in
-    let at_edit : rest e.0 ≡ run = subst (λ (r : Result Edit LineFault). go_on n r rest ≡ run) e.1 at_line in
-    let at_new : run_on by_parts reads (suc n) (with_releases (course new found)) (drop (i + 1) lines) ≡ run =
-    subst (λ (x : Seen). run_on by_parts reads (suc n) (with_releases (course x found)) (drop (i + 1) lines) ≡ run) (sym e.2) at_edit in
-    let at_after : run_on by_parts reads (suc n) (course after last) (drop (i + 1) lines) ≡ run = subst (λ (x : Course). run_on by_parts reads (suc n) x (drop (i + 1) lines) ≡ run) (sym released) at_new in
-    subst (λ (k : ℕ). run_on by_parts reads k (course after last) (drop (i + 1) lines) ≡ run) (sym one_more) at_after
+pub run_goes_on : {L : Type 0} (reads : Reading L) (n m : ℕ) (s new after : Seen) (found last : Taken) (line : L) (rest : List L) (run : Run Seen LineFault)
+    → m ≡ suc n → run_on by_parts reads n (course s found) (line ∷ rest) ≡ run → IsEdited s (reads s line) new → course after last ≡ with_releases (course new found)
+    → run_on by_parts reads m (course after last) rest ≡ run
+run_goes_on {L} reads n m s new after found last line rest run one_more h e released =
+    let later : Edit → Run Seen LineFault = λ edit. run_on by_parts reads (suc n) (with_releases (edit_step (course s found) edit)) rest in
+    let at_edit : later e.0 ≡ run = subst (λ (r : Result Edit LineFault). go_on n r later ≡ run) e.1 h in
+    let at_new : run_on by_parts reads (suc n) (with_releases (course new found)) rest ≡ run =
+    subst (λ (x : Seen). run_on by_parts reads (suc n) (with_releases (course x found)) rest ≡ run) (sym e.2) at_edit in
+    let at_after : run_on by_parts reads (suc n) (course after last) rest ≡ run = subst (λ (x : Course). run_on by_parts reads (suc n) x rest ≡ run) (sym released) at_new in
+    subst (λ (k : ℕ). run_on by_parts reads k (course after last) rest ≡ run) (sym one_more) at_after
+
+-- where no line is left the run is done
+pub run_ends : {L : Type 0} (reads : Reading L) (n : ℕ) (c : Course) (rest : List L) (run : Run Seen LineFault) → length rest ≡ 0 → run_on by_parts reads n c rest ≡ run → run ≡ Done c
+run_ends {L} reads n c [] run none h = sym h
+run_ends {L} reads n c (line ∷ rest) run none h = absurd (omega (arith, none))
 
 -- ---- one leave
 
 pub leave_stops : {L : Type 0} (reads : Reading L) (s : Seen) (line : L) (e : LineError) → IsRefused e (reads s line) → EndsAs (of_work (at_line 1 e)) (due_of_run 1 (run_lines reads s (line ∷ [])))
 leave_stops {L} reads s line e refused =
-    run_stops reads 1 (course s nothing) (line ∷ []) 0 line (run_lines reads s (line ∷ [])) e refl (run_begins reads s nothing (line ∷ []) refl) refused 1
+    run_stops reads 1 (course s nothing) line [] (run_lines reads s (line ∷ [])) e (run_begins reads s nothing (line ∷ []) refl) refused 1
 
 pub leave_done : {L : Type 0} (reads : Reading L) (s new after : Seen) (found last : Taken) (line : L) → found ≡ nothing → IsEdited s (reads s line) new → course after last ≡ with_releases (course new found)
     → run_lines reads s (line ∷ []) ≡ Done (course after last)
 leave_done {L} reads s new after found last line none e released =
-    sym (run_goes_on reads 1 2 0 s new after found last (line ∷ []) line (run_lines reads s (line ∷ [])) refl refl (run_begins reads s found (line ∷ []) none) e released)
+    sym (run_goes_on reads 1 2 s new after found last line [] (run_lines reads s (line ∷ [])) refl (run_begins reads s found (line ∷ []) none) e released)

@@ -1,15 +1,11 @@
 -- The words of a command.
-use Rattle.std.specs.Prelude.{ℕ, List, [], ◌∷◌, codes, bytes_eq, nat_le, Option, Some, None, option_and_then, if◌then◌else◌}
+use Rattle.std.specs.Prelude.{ℕ, List, [], ◌∷◌, codes, bytes_eq, Option, Some, None, option_and_then, if◌then◌else◌}
 use Rattle.rls_ident.specs.declared.limits.TheConstants.{GREATEST_NUMBER}
-use Rattle.rls_script.specs.Scripts.{number_of}
+use Rattle.rls_script.specs.Scripts.{number_of, number_up_to}
 use Rattle.rls_top.specs.declared.words.Command.{Command}
 use Rattle.rls_top.specs.declared.words.Command.TheVariants.{New, OnFile, Trial}
 use Rattle.rls_top.specs.declared.words.FileCommand.{FileCommand}
 use Rattle.rls_top.specs.declared.words.FileCommand.TheVariants.{Edit, Text, Ids, Stat, Send, Take, Leave}
-
--- a number of at most this
-abbrev pub number_up_to : ℕ → List ℕ → Option ℕ
-number_up_to most word = option_and_then (λ n. if nat_le n most then Some n else None) (number_of word)
 
 abbrev pub u32_of : List ℕ → Option ℕ
 u32_of word = number_up_to GREATEST_NUMBER word

@@ -20,7 +20,7 @@ use rls_script::{Lines, ScriptError, parse};
 use rls_stages::{WorkError, perform_edit, perform_line};
 use std::alloc::Global;
 
-/// Performs a script. Its bytes are given up once they are read, and its lines before the file is made.
+/// Performs a script. Its bytes are given up once they are read, and each line once it is performed.
 ///
 /// The time is that of the edits, and for each line `b` that of the characters before its position that it reads (`perform_line`).
 pub(crate) fn edit(alloc: Global, replica: &mut Replica, script: Vec<u8>) -> Result<Made, WorkError>
@@ -38,8 +38,7 @@ pub(crate) fn edit(alloc: Global, replica: &mut Replica, script: Vec<u8>) -> Res
         Err(ScriptError::OutOfMemory) => Err(WorkError::OutOfMemory),
         Ok(lines) => {
             let edits = lines.len();
-            let taken = perform_lines(alloc, replica, &lines)?;
-            drop(lines);
+            let taken = perform_lines(alloc, replica, lines)?;
             report_edits(alloc, replica, edits, &taken)
         }
     }
@@ -53,7 +52,7 @@ pub(crate) fn leave(alloc: Global, replica: &mut Replica) -> Result<Made, WorkEr
     ensures stored { IfOk result (λ made. IsSome made.stored) }
 {
     let mut taken = Taken::new(alloc);
-    match perform_edit(replica, &Edit::Leave) {
+    match perform_edit(replica, Edit::Leave) {
         Err(error) => Err(at_line(1, error)),
         Ok(()) => match replica.release_all(&mut taken) {
             Err(_) => Err(WorkError::OutOfMemory),
@@ -81,13 +80,13 @@ fn report_edits(
 }
 
 // Performs the lines, one after another, and releases what is ready after each.
-fn perform_lines(alloc: Global, replica: &mut Replica, lines: &Lines) -> Result<Taken, WorkError>
-    ensures run { IfOk result (λ taken. IsRun taken replica.new (run_script replica.old lines.now)) }
-    ensures refused { IfErr result (λ e. (n : ℕ) → EndsAs (of_work e) (due_of_run n (run_script replica.old lines.now))) }
+fn perform_lines(alloc: Global, replica: &mut Replica, lines: Lines) -> Result<Taken, WorkError>
+    ensures run { IfOk result (λ taken. IsRun taken replica.new (run_script replica.old lines)) }
+    ensures refused { IfErr result (λ e. (n : ℕ) → EndsAs (of_work e) (due_of_run n (run_script replica.old lines))) }
 {
     let mut taken = Taken::new(alloc);
-    for i in 0..lines.len() {
-        match perform_line(replica, lines.get(i)) {
+    for (i, line) in lines.into_vec().into_iter().enumerate() {
+        match perform_line(replica, line) {
             Err(error) => return Err(at_line(i as u64 + 1, error)),
             Ok(()) => replica.release_all(&mut taken)?,
         }

@@ -13,7 +13,7 @@ ghost use Rattle.rls_stages.specs.Errors.{of_work};
 ghost use Rattle.rls_top.specs.Stages.{IsDue};
 
 use crate::made::{Made, saving};
-use rls_codec::{DecodeError, decode_message};
+use rls_codec::{DecodeError, decode_message, give_back};
 use rls_model::Taken;
 use rls_ops::Message;
 use rls_replica::{Replica, TakeError};
@@ -49,7 +49,7 @@ fn read_message(alloc: Global, bytes: Vec<u8>) -> Result<Message, DecodeError>
     ensures message { IfOk result (IsMessage bytes.items) }
 {
     let found = decode_message(alloc, &bytes);
-    drop(bytes);
+    give_back(bytes);
     found
 }
 

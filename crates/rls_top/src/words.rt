@@ -1,10 +1,10 @@
 //! The words of a command.
 
 ghost use Rattle.std.specs.Prelude.{◌≡◌, map, string_bytes};
-ghost use Rattle.rls_top.specs.Words.{number_up_to, alone, new_of, send_of, trial_of, command_of};
+ghost use Rattle.rls_top.specs.Words.{alone, new_of, send_of, trial_of, command_of};
 
 use rls_ident::limits::GREATEST_NUMBER;
-use rls_script::number;
+use rls_script::{number, number_up_to};
 
 /// What the program is asked to do.
 #[derive(Clone, Copy, Debug, PartialEq, Eq)]
@@ -58,25 +58,14 @@ fn alone(command: FileCommand, others: &[String]) -> Option<Command>
     }
 }
 
-fn number_up_to(most: u32, word: &String) -> Option<u32>
-    ensures { result ≡ number_up_to most (string_bytes word.now) }
-{
-    let n = number(word.as_str())?;
-    if n <= most as u64 {
-        Some(n as u32)
-    } else {
-        None
-    }
-}
-
 fn new(others: &[String]) -> Option<Command>
     ensures { result ≡ new_of (map string_bytes others.now) }
 {
     match others {
         [group, me, members] => {
             let group = number(group.as_str())?;
-            let me = number_up_to(GREATEST_NUMBER, me)?;
-            let members = number_up_to(GREATEST_NUMBER, members)?;
+            let me = number_up_to(GREATEST_NUMBER, me.as_str())?;
+            let members = number_up_to(GREATEST_NUMBER, members.as_str())?;
             Some(Command::New { group, me, members })
         }
         _ => None,
@@ -88,7 +77,7 @@ fn send(others: &[String]) -> Option<Command>
 {
     match others {
         [to] => {
-            let to = number_up_to(GREATEST_NUMBER, to)?;
+            let to = number_up_to(GREATEST_NUMBER, to.as_str())?;
             Some(Command::OnFile {
                 command: FileCommand::Send { to },
             })
@@ -102,8 +91,8 @@ fn trial(others: &[String]) -> Option<Command>
 {
     match others {
         [seed, steps] => {
-            let seed = number_up_to(2_147_483_647, seed)?;
-            let steps = number_up_to(100_000, steps)?;
+            let seed = number_up_to(2_147_483_647, seed.as_str())?;
+            let steps = number_up_to(100_000, steps.as_str())?;
             Some(Command::Trial { seed, steps })
         }
         _ => None,

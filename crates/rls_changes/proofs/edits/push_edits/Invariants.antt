@@ -1,5 +1,5 @@
 use Rattle.std.proofs.Common.{◌≡◌, ◌++◌, take}
-use Rattle.rls_undo.specs.UndoLaws.{AreEdits}
+use Rattle.rls_model.specs.Laws.{AreEdits}
 use Rattle.rls_changes.specs.Edits.{edit_changes}
 use Rattle.rls_changes.proofs.edits.push_edits.Given as goal
 

@@ -13,4 +13,4 @@ returns-clause-same c =
     let e = c.in_ok-there.ensures.runs ∙ ap (λ (es : Entries). take n (drop c.args.place (idents_in es))) c.tree-2.ensures.text in
     let room : c.args.place + n ≤ length xs = omega (arith, l, c.requires.place, c.total.ensures.total, c.min-most.ensures) in
     let p = part_length n c.args.place xs c.in_ok-there.there e room in
-    stretch_same xs c.args.targets.now c.in_ok-there.there c.args.at c.args.place n c.common-count.result e room c.common-count.ensures.within (omega (arith, p, c.common-count.ensures.other_within)) c.common-count.ensures.same
+    stretch_same xs c.args.targets.now c.in_ok-there.there c.args.at c.args.place n c.count_common-count.result e room c.count_common-count.ensures.within (omega (arith, p, c.count_common-count.ensures.other_within)) c.count_common-count.ensures.same

@@ -1,5 +1,5 @@
 use Rattle.std.proofs.Common.{◌∙◌, List, ◌++◌, refl, ap, sym}
-use Rattle.rls_replica.specs.Releases.{reason_in}
+use Rattle.rls_model.specs.Answers.{reason_in}
 use Rattle.rls_changes.specs.declared.change.Change.{Change}
 use Rattle.rls_changes.proofs.Calls.{cut_back, released_fits, released_leads, released_none, released_refuses}
 use Rattle.rls_changes.proofs.receiving.release.Goals as goal

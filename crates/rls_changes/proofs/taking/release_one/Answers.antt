@@ -1,5 +1,5 @@
 use Rattle.std.proofs.Common.{sym}
-use Rattle.rls_replica.specs.Releases.{reason_in}
+use Rattle.rls_model.specs.Answers.{reason_in}
 use Rattle.rls_replica.proofs.Courses.{released_room, released_sums, fewer_counts, released_counts, unreleased_counts}
 use Rattle.rls_changes.proofs.Courses.{released_told, unreleased_told}
 use Rattle.rls_changes.proofs.taking.release_one.Goals as goal

@@ -1,12 +1,12 @@
 use Rattle.std.proofs.Common.{◌≡◌, ◌∙◌, ◌∷◌, ◌+◌, List, ap, subst, rules}
 use Rattle.rls_ops.specs.declared.op.Op.{Op}
 use Rattle.rls_model.specs.Answers.{answer_of}
-use Rattle.rls_model.specs.Machine.{release_all_on}
+use Rattle.rls_model.specs.Machine.{release_all_on, with_receipt}
 use Rattle.rls_seen.specs.Seen.{Seen, text_over}
 use Rattle.rls_seen.specs.Over.{received, IsPartReleased}
 use Rattle.rls_seen.specs.Messages.{with_releases}
 use Rattle.rls_seen.specs.Sane.{IsSane}
-use Rattle.rls_replica.specs.Steps.{course, with_receipt, IsOnWay, IsPartOfOps}
+use Rattle.rls_replica.specs.Steps.{course, IsOnWay, IsPartOfOps}
 use Rattle.rls_replica.proofs.Courses.{taken_none, taken_received, taken_part, taken_all, received_counts, unreceived_counts, received_few}
 use Rattle.rls_changes.specs.Telling.{tells_parts, told_course}
 use Rattle.rls_changes.proofs.Courses.{received_told}
@@ -50,7 +50,7 @@ returns-in_err-release_all-clause-err c =
 
 pub returns-in_err-release_all-clause-arrived : goal.returns-in_err-release_all-clause-arrived
 returns-in_err-release_all-clause-arrived c =
-    λ n h. c.in_err-release_all.ensures.arrived (n + 1) (received_few n c.args.taken.now c.count_receipt.new.taken c.args.op (answer_of c.in_ok-receipt.receipt) c.in_ok-count_receipt.ensures.ok h)
+    λ n h. c.in_err-release_all.ensures.arrived (n + 1) (received_few n c.args.taken.now c.count_receipt.new.self c.args.op (answer_of c.in_ok-receipt.receipt) c.in_ok-count_receipt.ensures.ok h)
 
 pub returns-in_err-release_all-clause-lead : goal.returns-in_err-release_all-clause-lead
 returns-in_err-release_all-clause-lead c =
@@ -58,7 +58,7 @@ returns-in_err-release_all-clause-lead c =
 
 pub returns-clause-arrived : goal.returns-clause-arrived
 returns-clause-arrived c =
-    λ n h. c.in_ok-release_all.ensures.arrived (n + 1) (received_few n c.args.taken.now c.count_receipt.new.taken c.args.op (answer_of c.in_ok-receipt.receipt) c.in_ok-count_receipt.ensures.ok h)
+    λ n h. c.in_ok-release_all.ensures.arrived (n + 1) (received_few n c.args.taken.now c.count_receipt.new.self c.args.op (answer_of c.in_ok-receipt.receipt) c.in_ok-count_receipt.ensures.ok h)
 
 pub returns-clause-told : goal.returns-clause-told
 returns-clause-told c =
@@ -70,7 +70,7 @@ returns-clause-told c =
     let counted = c.in_ok-count_receipt.ensures.ok ∙ ap (with_receipt t o.author o.seq) e.answer in
     c.in_ok-release_all.ensures.told
     ∙ ap (release_all_on tells_parts)
-    (ap (λ x. told_course x c.count_receipt.new.taken c.receive.new.changes.items) e.after
+    (ap (λ x. told_course x c.count_receipt.new.self c.receive.new.changes.items) e.after
     ∙ (ap (λ x. told_course (received r o) x c.receive.new.changes.items) counted
     ∙ (ap (told_course (received r o) _) e.changes ∙ received_told r t cs o)))
 
@@ -82,7 +82,7 @@ returns-clause-ok c = λ s os rest w.
     let after = c.in_ok-receipt.ensures.after in
     let counted = c.in_ok-count_receipt.ensures.ok ∙ ap (with_receipt t o.author o.seq) c.in_ok-receipt.ensures.answer in
     taken_all s r c.release_all.new.replica t c.release_all.new.taken o os rest (subst IsSane after c.sane-2.ensures.sane)
-    (c.in_ok-release_all.ensures.ok ∙ ap with_releases (ap (λ x. course x c.count_receipt.new.taken) after ∙ ap (course (received r o)) counted)) w
+    (c.in_ok-release_all.ensures.ok ∙ ap with_releases (ap (λ x. course x c.count_receipt.new.self) after ∙ ap (course (received r o)) counted)) w
 
 pub returns-clause-lead : goal.returns-clause-lead
 returns-clause-lead c =
