@@ -3,6 +3,7 @@ use Rattle.std.proofs.Common.{◌≡◌, ◌∙◌, ◌++◌, Bool, List, [], �
 use Rattle.rls_model.specs.declared.edit.Edit.{Edit}
 use Rattle.rls_model.specs.declared.edit.EditError.{EditError}
 use Rattle.rls_model.specs.Receiving.{State}
+use Rattle.rls_model.specs.Laws.{AreEdits}
 use Rattle.rls_seen.specs.Edits.{edit_fault_over, edited}
 use Rattle.rls_seen.specs.Over.{released_all}
 use Rattle.rls_seen.specs.Sane.{IsSane}
@@ -12,7 +13,7 @@ use Rattle.rls_seen.proofs.Releasing.{released_all_stands}
 use Rattle.rls_replica.proofs.KeptNames.{all_names}
 use Rattle.rls_store.specs.Stored.{AreWritable}
 use Rattle.rls_store.proofs.Storable.{IsStoring, edited_storing, storing}
-use Rattle.rls_undo.specs.UndoLaws.{AreEdits, AreWhole}
+use Rattle.rls_undo.specs.UndoLaws.{AreWhole}
 use Rattle.rls_undo.specs.Undoing.{performed_over}
 use Rattle.rls_changes.specs.declared.change.Change.{Change}
 use Rattle.rls_changes.specs.Telling.{all_released_changes}

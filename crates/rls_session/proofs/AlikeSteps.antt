@@ -2,10 +2,10 @@
 use Rattle.std.proofs.Common.{◌≡◌, ◌∙◌, ℕ, List, [], ◌∷◌, refl, ap, sym, subst}
 use Rattle.rls_model.specs.declared.edit.Edit.{Edit}
 use Rattle.rls_model.specs.Receiving.{State}
+use Rattle.rls_model.specs.Laws.{AreEdits}
 use Rattle.rls_seen.specs.Seen.{Seen}
 use Rattle.rls_replica.specs.Names.{KeepsNames}
 use Rattle.rls_store.proofs.Storable.{IsStoring, storing}
-use Rattle.rls_undo.specs.UndoLaws.{AreEdits}
 use Rattle.rls_undo.proofs.Performed.{performed_names}
 use Rattle.rls_changes.specs.Edits.{edit_changes}
 use Rattle.rls_steps.specs.declared.piece.Step.{Step}

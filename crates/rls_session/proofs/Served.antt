@@ -28,7 +28,7 @@ use Rattle.rls_session.specs.Answering.{of_answer}
 use Rattle.rls_session.specs.Answers.{Sitting, answer, resumed, sitting_at}
 use Rattle.rls_session.specs.Courses.{Course}
 use Rattle.rls_session.specs.Due.{Due, due, due_of, due_on, dues_line, ending_status, found_in, line_at, line_or, stops}
-use Rattle.rls_session.specs.Endings.{ByReplies, Ends, EndsAs, EndsIn, EndsNear, EndsOn, FailsAt, HasAllOf, IsKept, IsSessionsOwn, IsSessionStatus, IsStatusOf, Leaves, LeavesIn, LeavesOn, Saves, line_of}
+use Rattle.rls_session.specs.Endings.{ByReplies, Ends, EndsIn, EndsNear, EndsOn, FailsAt, HasAllOf, IsKept, IsSessionsOwn, IsSessionStatus, IsStatusOf, Leaves, LeavesIn, LeavesOn, Saves, line_of}
 use Rattle.rls_session.specs.Replies.{saved_text}
 use Rattle.rls_session.specs.Sessions.{by_parts}
 use Rattle.rls_session.proofs.Courses.{courses_begin}
@@ -93,8 +93,8 @@ save_leaves r c s file new_file old mid new at within wrote inner saves keeps = 
     kept : IsKept (saved s) file new_file → IsKept (due_of c).ending file new_file
     kept h = subst (λ (x : Result Seen CommandError). IsKept x file new_file) (sym ending) h
 
-    same_end : (f : Failure) → EndsAs f (saved s) → EndsAs f (due_of c).ending
-    same_end f h = subst (EndsAs f) (sym ending) h
+    same_end : (f : Failure) → GivesError f (saved s) → GivesError f (due_of c).ending
+    same_end f h = subst (GivesError f) (sym ending) h
 
     part : new ≡ mid → IsPart old new c.replies
     part same = part_all old new c.replies (subst (λ (m : Option (List ℕ)). Appends old m c.replies) (sym same) wrote)

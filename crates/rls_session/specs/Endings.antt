@@ -11,7 +11,7 @@ use Rattle.rls_report.specs.declared.failures.Failure.{Failure}
 use Rattle.rls_report.specs.declared.failures.Failure.TheVariants.{NoCommand, Command, Fault}
 use Rattle.rls_report.specs.declared.failures.Fault.TheVariants.{Sink}
 use Rattle.rls_stages.specs.Endings.{EndsWith, IsFailureStatus, IsFault, IsPart, failure_line_at}
-use Rattle.rls_stages.specs.Errors.{IsOfFile}
+use Rattle.rls_stages.specs.Errors.{IsOfFile, GivesError}
 use Rattle.rls_stages.specs.KeptFile.{IsFileFor, IsReadBack, StandsIn, Stays, bytes_over}
 use Rattle.rls_session.specs.Answering.{IsNear, IsPrompt}
 use Rattle.rls_session.specs.Answers.{Sitting}
@@ -27,17 +27,11 @@ abbrev pub IsKept : Result Seen CommandError → Option (Option (List ℕ)) → 
 IsKept (Ok s) old new = Stores old new (bytes_over s) × IsReadBack s
 IsKept (Err e) old new = ⊥
 
--- this end is called for, or a device failed, or memory ran out
-abbrev pub EndsAs : Failure → Result Seen CommandError → Type 0
-EndsAs NoCommand r = ⊥
-EndsAs (Command e) r = r ≡ Err e
-EndsAs (Fault f) r = Unit {0}
-
 -- the file is stored, and that is told; or of the telling at least one byte isn't written; or neither is done
 abbrev pub Saves : Result (Unit {0}) Failure → Result Seen CommandError → Option (Option (List ℕ)) → Option (Option (List ℕ)) → Option (List ℕ) → Option (List ℕ) → Type 0
 Saves (Ok u) r file new_file old new = IsKept r file new_file × Appends old new saved_text
 Saves (Err (Fault Sink)) r file new_file old new = IsKept r file new_file × IsCutShort old new saved_text
-Saves (Err f) r file new_file old new = EndsAs f r × (new ≡ old)
+Saves (Err f) r file new_file old new = GivesError f r × (new ≡ old)
 
 -- ---- what a session leaves
 
@@ -65,7 +59,7 @@ ByReplies replies old new Stored Unstored = IfSome old (λ output. (HasAllOf out
 abbrev pub LeavesIn : Result (Unit {0}) Failure → Due → Option (Option (List ℕ)) → Option (Option (List ℕ)) → Option (List ℕ) → Option (List ℕ) → Type 0
 LeavesIn (Ok u) d file new_file old new = IsKept d.ending file new_file × Appends old new (d.replies ++ saved_text)
 LeavesIn (Err (Fault Sink)) d file new_file old new = FailsAt d file new_file old new
-LeavesIn (Err f) d file new_file old new = EndsAs f d.ending × IsPart old new d.replies × Stays file new_file
+LeavesIn (Err f) d file new_file old new = GivesError f d.ending × IsPart old new d.replies × Stays file new_file
 
 -- what is called for up to a store is done
 pub record IsDoneTo (d : Due) (file new_file : Option (Option (List ℕ))) (old new : Option (List ℕ)) : Type 0 where

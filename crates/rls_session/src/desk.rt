@@ -104,7 +104,7 @@ impl Desk {
         ensures sent { AreWritable self.old.state → OnOk result (SendsMessage self.old (Does order)) }
     {
         match order {
-            Order::Edit { line } => self.edit(alloc, &line),
+            Order::Edit { line } => self.edit(alloc, line),
             Order::Undo => self.undo(alloc),
             Order::Back => self.back(alloc),
             Order::Again => self.again(alloc),
@@ -126,8 +126,8 @@ impl Desk {
     // ---- edits
 
     // Performs a line, and releases what is ready.
-    fn edit(&mut self, alloc: Global, line: &Line) -> Result<Vec<u8>, AllocError>
-        ensures answered { IfOk result (λ reply. IsAnswered (edit_told by_parts self.old (read_line by_parts self.old.state line.now)) reply.items self.new) }
+    fn edit(&mut self, alloc: Global, line: Line) -> Result<Vec<u8>, AllocError>
+        ensures answered { IfOk result (λ reply. IsAnswered (edit_told by_parts self.old (read_line by_parts self.old.state line)) reply.items self.new) }
     {
         let mut changes = Vec::new(alloc);
         let reply = self.perform(alloc, line, &mut changes)?;
@@ -162,11 +162,11 @@ impl Desk {
     fn perform(
         &mut self,
         alloc: Global,
-        line: &Line,
+        line: Line,
         changes: &mut Vec<Change>,
     ) -> Result<Vec<u8>, AllocError>
-        ensures answered { IfOk result (λ reply. IsAnswered (edited by_parts self.old (read_line by_parts self.old.state line.now)) reply.items self.new) }
-        ensures changes { IsTrue self.old.tells → OnOk result (changes.new.items ≡ changes.old.items ++ made_changes (read_line by_parts self.old.state line.now)) }
+        ensures answered { IfOk result (λ reply. IsAnswered (edited by_parts self.old (read_line by_parts self.old.state line)) reply.items self.new) }
+        ensures changes { IsTrue self.old.tells → OnOk result (changes.new.items ≡ changes.old.items ++ made_changes (read_line by_parts self.old.state line)) }
     {
         match edit_of(self.replica(), line) {
             Err(LineError::OutOfMemory) => Err(AllocError),

@@ -65,7 +65,7 @@ distinct_same f Among h (k ∷ ks) w d = (
 pub distinct_marks : (f : Mark → Mark) (Among : Mark → Type 0) → ((a b : Mark) → Among a → Among b → f a ≡ f b → a ≡ b) → (m : Marked) → ((k : Mark) → IsIn k (marks m) → Among k) → AreDistinct (marks m) → AreDistinct (marks (remarked f m))
 distinct_marks f Among h m w d = subst AreDistinct (sym (marks_is f m)) (distinct_same f Among h (marks m) w d)
 
-marks_append : (xs ys : Marked) → marks (xs ++ ys) ≡ marks xs ++ marks ys
+pub marks_append : (xs ys : Marked) → marks (xs ++ ys) ≡ marks xs ++ marks ys
 marks_append xs ys = append_map (λ (e : Mark × ℕ). e.0) xs ys
 
 -- the marks of parts

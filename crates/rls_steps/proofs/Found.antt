@@ -19,6 +19,7 @@ use Rattle.rls_runs.specs.Entries.{Entries, has_ident, idents_in}
 use Rattle.rls_runs.specs.Runs.{place_of, is_increasing}
 use Rattle.rls_runs.proofs.RunOrder.{rising_of}
 use Rattle.rls_runs.proofs.Sorted.{Entry}
+use Rattle.rls_tree.proofs.Located.{mapped_at}
 use Rattle.rls_seen.specs.Sane.{IsSane}
 use Rattle.rls_seen.specs.Seen.{Seen}
 use Rattle.rls_seen.proofs.Needed.{total_room}
@@ -202,11 +203,6 @@ contains_in [] k i l e = absurd (omega (arith, l))
 contains_in (x ∷ xs) k zero l e = inl e
 contains_in (x ∷ xs) k (suc i) l e = inr (contains_in xs k i (omega (arith, l)) e)
 
-get_map : {A B : Type 0} (f : A → B) (xs : List A) (j : ℕ) (x : A) → slice_get xs j ≡ Some x → slice_get (map f xs) j ≡ Some (f x)
-get_map f [] j x g = absurd (cc)
-get_map f (y ∷ ys) zero x g = let e : y ≡ x = cc in ap (λ z. Some (f z)) e
-get_map f (y ∷ ys) (suc j) x g = get_map f ys j x g
-
 map_get : {A B : Type 0} (f : A → B) (xs : List A) (j : ℕ) (m : B) → slice_get (map f xs) j ≡ Some m → (x : A) × (slice_get xs j ≡ Some x) × (f x ≡ m)
 map_get f [] j m g = absurd (cc)
 map_get f (y ∷ ys) zero m g = let e : f y ≡ m = cc in (y, refl, e)
@@ -232,7 +228,7 @@ found_one es ns labels k i a p =
     let here = place_is xs q.0 k (rising_of xs i) q.2 in
     let label = name_label ns q.0 r.0 a q.1 in
     let one : is_one_of labels (mark ns q.0) ≡ true = ap (λ o. is_one_of labels (mark_by q.0 o)) label ∙ in_one labels r.0 r.1 in
-    let there : slice_get (marks (marked_by ns es)) k ≡ Some (mark ns q.0) = ap (λ (ms : List Mark). slice_get ms k) (marks_are ns es) ∙ get_map (mark ns) xs k q.0 here in
+    let there : slice_get (marks (marked_by ns es)) k ≡ Some (mark ns q.0) = ap (λ (ms : List Mark). slice_get ms k) (marks_are ns es) ∙ mapped_at (mark ns) xs k q.0 here in
     let none : 0 + k ≡ k = omega arith in
     subst (λ j. IsIn j (label_places 0 labels (marks (marked_by ns es)))) none (places_in 0 labels (marks (marked_by ns es)) k (mark ns q.0) there one)
 

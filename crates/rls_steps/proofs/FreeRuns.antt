@@ -1,5 +1,5 @@
 -- A run of names that is added at once: none of its identifiers has a name, and they are apart.
-use Rattle.std.proofs.Common.{◌≡◌, ℕ, zero, suc, ◌+◌, ◌-◌, ◌<◌, ◌≤◌, Bool, true, false, List, [], ◌∷◌, ◌++◌, length, take, inl, inr, refl, sym, ap, ◌∙◌, subst, arith}
+use Rattle.std.proofs.Common.{◌≡◌, ℕ, zero, suc, ◌+◌, ◌-◌, ◌<◌, ◌≤◌, Bool, true, false, List, [], ◌∷◌, ◌++◌, length, take, get_or, inl, inr, refl, sym, ap, ◌∙◌, subst, arith}
 use Rattle.std.specs.Prelude.{ℤ, pos, ◌+ℤ◌, ◌-ℤ◌, nat_lt, reverse, zip, slice_get, Option, Some, None, if◌then◌else◌, is_some}
 use Rattle.std.specs.Ordering.{is_gt}
 use Rattle.std.proofs.lemmas.Int.{ints}
@@ -223,3 +223,9 @@ one_fresh r x l ys e none k h = go (subst (IsIn (name_at r k)) e (name_in r k h)
 pub all_pushed : (old new names rest : Names) → old ++ names ≡ new ++ rest → length rest < 1 → new ≡ old ++ names
 all_pushed old new names [] e h = sym (e ∙ append-nil new)
 all_pushed old new names (n ∷ ns) e h = absurd (omega (arith, h))
+
+-- the name of the only identifier
+pub one_named : (old new : Names) (x : List Tuple) (ls : List ℕ) → length ls ≡ 1 → new ≡ old ++ (x, get_or ls 0 0) ∷ [] → reverse new ≡ zip (run_idents x 1) ls ++ reverse old
+one_named old new x [] n e = absurd (omega (arith, n))
+one_named old new x (l ∷ []) n e = ap reverse e ∙ reverse_snoc old (x, l)
+one_named old new x (l ∷ (k ∷ ks)) n e = absurd (omega (arith, n))

@@ -16,6 +16,7 @@ use Rattle.rls_runs.specs.Runs.{run_idents, is_run}
 use Rattle.rls_runs.proofs.RunOrder.{run_ident}
 use Rattle.rls_runs.proofs.RunEnds.{run_end}
 use Rattle.rls_runs.proofs.RunJoins.{run_longer}
+use Rattle.rls_tree.proofs.Puts.{get_drop}
 use Rattle.rls_model.proofs.Spliced.{append_map}
 use Rattle.rls_seen.specs.Seen.{Seen}
 use Rattle.rls_steps.specs.Marks.{numbers_from}
@@ -23,7 +24,7 @@ use Rattle.rls_steps.specs.Labelled.{Names, Labelled, label_of, new_label, label
 use Rattle.rls_steps.specs.NameRuns.{IsStretch, name_by, names_by}
 use Rattle.rls_steps.specs.Index.{AreApart}
 use Rattle.rls_steps.specs.Recorded.{held_by}
-use Rattle.rls_steps.proofs.Tabling.{take_snoc, get_drop}
+use Rattle.rls_steps.proofs.Tabling.{take_snoc}
 use Rattle.rls_steps.proofs.Giving.{all_append, reverse_snoc}
 use Rattle.rls_steps.proofs.Stretches.{names_get, names_suc, in_reverse}
 use Rattle.rls_steps.proofs.Found.{name_label}

@@ -3,7 +3,7 @@ use Rattle.std.proofs.Common.{◌≡◌, ℕ, zero, suc, ◌+◌, ◌-◌, ◌<�
 use Rattle.std.specs.Prelude.{reverse, slice_get, ◌==◌, nat_lt, Box, Option, Some, None, Result, Ok, Err, IfOk, if◌then◌else◌}
 use Rattle.std.specs.BTreeMap.{is_at}
 use Rattle.std.specs.declared.alloc.Global.{Global}
-use Rattle.std.proofs.lemmas.Option.{slice_get-get_or, slice_get_read}
+use Rattle.std.proofs.lemmas.Option.{slice_get-get_or, slice_get_read, slice_get_within}
 use Rattle.std.proofs.lemmas.List.{reverse-append, reverse-reverse, length-reverse}
 use Rattle.std.proofs.Math.Seq.{take-length}
 use Rattle.rls_ident.specs.declared.tuple.Tuple.{Tuple}
@@ -20,43 +20,46 @@ use Rattle.rls_steps.specs.declared.interval.Interval.{Interval}
 use Rattle.rls_steps.specs.Bounds.{AreBounded, IsMore}
 use Rattle.rls_steps.specs.Intervals.{AreNoted}
 use Rattle.rls_steps.specs.Indexed.{IsIndexed}
+use Rattle.rls_steps.specs.declared.height.Height.{Height}
+use Rattle.rls_steps.specs.Heights.{AreUpTo}
 use Rattle.rls_steps.proofs.Giving.{reverse_snoc, front_stays}
 use Rattle.rls_steps.proofs.Stretches.{names_long, names_get, one_name, shorter, named_snoc, first_by, reverse_cons, one_run, run_there, sound_at}
 use Rattle.rls_steps.proofs.Widths.{wide_same}
 use Rattle.rls_steps.proofs.Bounded.{more_extended, less_shortened, bounded_fewer}
 use Rattle.rls_steps.proofs.Intervals.{noted_fewer}
+use Rattle.rls_steps.proofs.Heights.{up_to_less}
 
 -- ---- all that is kept
 
 -- one more name
-pub indexed_more : (rs rs' : List Stretch) (ss ss' : List ℕ) (fs fs' : List (Key × ℕ)) (b b' : Bounds) (vs vs' : List (Option (Box Interval Global))) (n : ℕ) (x : List Tuple) (l : ℕ) → IsIndexed rs ss fs b vs n → AreKept rs' ss' fs' → AreBounded rs' b' → AreNoted rs' vs' →
-    named rs' ≡ named rs ++ (x, l) ∷ [] → label_of (reverse (named rs)) x ≡ None → IsIndexed rs' ss' fs' b' vs' (n + 1)
-indexed_more rs rs' ss ss' fs fs' b b' vs vs' n x l i kept bounded noted more none =
+pub indexed_more : (rs rs' : List Stretch) (ss ss' : List ℕ) (fs fs' : List (Key × ℕ)) (b b' : Bounds) (vs vs' : List (Option (Box Interval Global))) (n : ℕ) (h h' : Height) (x : List Tuple) (l : ℕ) → IsIndexed rs ss fs b vs n h → AreKept rs' ss' fs' → AreBounded rs' b' → AreNoted rs' vs' →
+    named rs' ≡ named rs ++ (x, l) ∷ [] → label_of (reverse (named rs)) x ≡ None → AreUpTo h' (named rs') → IsIndexed rs' ss' fs' b' vs' (n + 1) h'
+indexed_more rs rs' ss ss' fs fs' b b' vs vs' n h h' x l i kept bounded noted more none far =
     let whole : reverse (named rs') ≡ (x, l) ∷ reverse (named rs) = ap reverse more ∙ reverse_snoc (named rs) (x, l) in
     let size = ap length more ∙ length-append (named rs) ((x, l) ∷ []) in
     let count = i.count in
-    record { kept = kept; apart = subst AreApart (sym whole) (none, i.apart); bounded = bounded; noted = noted; count = omega (arith, size, count) }
+    record { kept = kept; apart = subst AreApart (sym whole) (none, i.apart); bounded = bounded; noted = noted; count = omega (arith, size, count); far = far }
 
 -- one more run
-pub indexed_run : (rs rs' : List Stretch) (ss ss' : List ℕ) (fs fs' : List (Key × ℕ)) (b b' : Bounds) (vs vs' : List (Option (Box Interval Global))) (n : ℕ) (r : Stretch) → IsIndexed rs ss fs b vs n → AreKept rs' ss' fs' → AreBounded rs' b' → AreNoted rs' vs' → named rs' ≡ named rs ++ names_of r →
-    AreApart (reverse (names_of r) ++ reverse (named rs)) → IsIndexed rs' ss' fs' b' vs' (n + r.len)
-indexed_run rs rs' ss ss' fs fs' b b' vs vs' n r i kept bounded noted more apart =
+pub indexed_run : (rs rs' : List Stretch) (ss ss' : List ℕ) (fs fs' : List (Key × ℕ)) (b b' : Bounds) (vs vs' : List (Option (Box Interval Global))) (n : ℕ) (h h' : Height) (r : Stretch) → IsIndexed rs ss fs b vs n h → AreKept rs' ss' fs' → AreBounded rs' b' → AreNoted rs' vs' → named rs' ≡ named rs ++ names_of r →
+    AreApart (reverse (names_of r) ++ reverse (named rs)) → AreUpTo h' (named rs') → IsIndexed rs' ss' fs' b' vs' (n + r.len) h'
+indexed_run rs rs' ss ss' fs fs' b b' vs vs' n h h' r i kept bounded noted more apart far =
     let whole : reverse (named rs') ≡ reverse (names_of r) ++ reverse (named rs) = ap reverse more ∙ reverse-append (named rs) (names_of r) in
     let size = ap length more ∙ length-append (named rs) (names_of r) in
     let long = names_long r.down r.first r.label 0 r.len in
     let count = i.count in
-    record { kept = kept; apart = subst AreApart (sym whole) apart; bounded = bounded; noted = noted; count = omega (arith, size, long, count) }
+    record { kept = kept; apart = subst AreApart (sym whole) apart; bounded = bounded; noted = noted; count = omega (arith, size, long, count); far = far }
 
 -- one less
-pub indexed_less : (rs rs' : List Stretch) (ss ss' : List ℕ) (fs fs' : List (Key × ℕ)) (b : Bounds) (vs : List (Option (Box Interval Global))) (n : ℕ) → IsIndexed rs ss fs b vs n → (AreApart (reverse (named rs)) → AreKept rs ss fs → AreKept rs' ss' fs') → IsMore rs rs' [] → length rs' ≤ length rs →
-    (m : List Tuple × ℕ) × (named rs ≡ named rs' ++ m ∷ []) → IsIndexed rs' ss' fs' b vs (n - 1)
-indexed_less rs rs' ss ss' fs fs' b vs n i kept fewer short w =
+pub indexed_less : (rs rs' : List Stretch) (ss ss' : List ℕ) (fs fs' : List (Key × ℕ)) (b : Bounds) (vs : List (Option (Box Interval Global))) (n : ℕ) (h : Height) → IsIndexed rs ss fs b vs n h → (AreApart (reverse (named rs)) → AreKept rs ss fs → AreKept rs' ss' fs') → IsMore rs rs' [] → length rs' ≤ length rs →
+    (m : List Tuple × ℕ) × (named rs ≡ named rs' ++ m ∷ []) → IsIndexed rs' ss' fs' b vs (n - 1) h
+indexed_less rs rs' ss ss' fs fs' b vs n h i kept fewer short w =
     let m = w.0 in
     let whole : reverse (named rs) ≡ m ∷ reverse (named rs') = ap reverse w.1 ∙ reverse_snoc (named rs') m in
     let both : AreApart (m ∷ reverse (named rs')) = subst AreApart whole i.apart in
     let size = ap length w.1 ∙ length-append (named rs') (m ∷ []) in
     let count = i.count in
-    record { kept = kept i.apart i.kept; apart = both.1; bounded = bounded_fewer rs rs' b i.bounded fewer short; noted = noted_fewer rs rs' vs i.noted fewer short; count = omega (arith, size, count) }
+    record { kept = kept i.apart i.kept; apart = both.1; bounded = bounded_fewer rs rs' b i.bounded fewer short; noted = noted_fewer rs rs' vs i.noted fewer short; count = omega (arith, size, count); far = up_to_less h (named rs) (named rs') m i.far w.1 }
 
 pub some_runs : (rs : List Stretch) → 0 < length (named rs) → 0 < length rs
 some_runs [] h = h
@@ -353,3 +356,10 @@ place_name rs ss i k r e h low g short =
     let at : slice_get (starts_of 0 rs) k ≡ Some s = ap (λ (ks : List ℕ). slice_get ks k) (sym e) ∙ slice_get-get_or ss k 0 h in
     let z : i ≡ i - 0 = omega arith in
     ap (slice_get (named rs)) z ∙ (placed_name 0 rs k r s i g at low short).1
+
+-- a run ends among the names
+pub run_ends : (rs : List Stretch) (ss : List ℕ) (k : ℕ) (r : Stretch) → ss ≡ starts_of 0 rs → k < length ss → slice_get rs k ≡ Some r → 0 < r.len → get_or ss k 0 + r.len ≤ length (named rs)
+run_ends rs ss k r e h g some =
+    let last = get_or ss k 0 + (r.len - 1) in
+    let there = slice_get_within (named rs) last (name_at r (last - get_or ss k 0)) (place_name rs ss last k r e h (omega arith) g (omega (arith, some))) in
+    omega (arith, there, some)

@@ -19,6 +19,7 @@ pub mod Stretches
 pub mod LabelSteps
 pub mod CutRuns
 pub mod RunLookups
+pub mod Heights
 pub mod Bounded
 pub mod Intervals
 pub mod Indexing

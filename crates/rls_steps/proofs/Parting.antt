@@ -12,6 +12,7 @@ use Rattle.rls_steps.specs.Parts.{last_label, parts_of, parts, DeletionShows}
 use Rattle.rls_steps.proofs.Backing.{three}
 use Rattle.rls_steps.proofs.Courses.{move_shows}
 use Rattle.rls_steps.proofs.Stepping.{distinct_without}
+use Rattle.rls_steps.proofs.Exchanging.{marks_append}
 
 known_split : (most : ℕ) (labels cs : List ℕ) → known labels cs ≡ known (take most labels) (take most cs) ++ known (drop most labels) (drop most cs)
 known_split zero labels cs = refl
@@ -86,7 +87,7 @@ parted most (suc k) m labels cs left right ps t ts z (front, rest, cut, same, ba
     let apart : AreDistinct (marks ((front ++ known a x) ++ (known d y ++ rest))) = subst (λ (q : Marked). AreDistinct (marks q)) full cut.distinct in
     let near : AreDistinct (marks (front ++ (known a x ++ rest))) =
     subst (λ (q : Marked). AreDistinct (marks q)) (append_assoc front (known a x) rest)
-    (subst AreDistinct (sym (marks_both (front ++ known a x) rest)) (distinct_without (marks (front ++ known a x)) (marks (known d y)) (marks rest) (subst AreDistinct (three (front ++ known a x) (known d y) rest) apart))) in
+    (subst AreDistinct (sym (marks_append (front ++ known a x) rest)) (distinct_without (marks (front ++ known a x)) (marks (known d y)) (marks rest) (subst AreDistinct (three (front ++ known a x) (known d y) rest) apart))) in
     let first : IsCut m a x left front rest = record { is = cut.is; fit = sizes.0; some = omega (arith, n, z); left_is = cut.left_is; distinct = near } in
     let there : Marked = front ++ (known a x ++ rest) in
     let second : IsCut there d y (last_label a) (front ++ known a x) rest = record {
@@ -110,10 +111,6 @@ parted most (suc k) m labels cs left right ps t ts z (front, rest, cut, same, ba
     one b =
         if b then Cut labels cs left right ∷ []
         else Cut (take most labels) (take most cs) left right ∷ parts_of most k (drop most labels) (drop most cs) (last_label (take most labels)) right
-
-    marks_both : (p q : Marked) → marks (p ++ q) ≡ marks p ++ marks q
-    marks_both [] q = refl
-    marks_both (e ∷ p) q = ap (λ ks. e.0 ∷ ks) (marks_both p q)
 
 -- ---- labels that were given
 

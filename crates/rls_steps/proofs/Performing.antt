@@ -8,6 +8,7 @@ use Rattle.rls_model.specs.declared.edit.Edit.TheVariants as edits
 use Rattle.rls_model.specs.declared.edit.EditError.{EditError}
 use Rattle.rls_model.specs.Editing.{or_fault, edit_fault, made}
 use Rattle.rls_model.specs.Receiving.{State, accept}
+use Rattle.rls_model.specs.Laws.{AreEdits}
 use Rattle.rls_replica.specs.Names.{keeps}
 use Rattle.rls_seen.specs.Edits.{edit_fault_over, edited}
 use Rattle.rls_seen.specs.Sane.{IsSane}
@@ -16,7 +17,6 @@ use Rattle.rls_seen.specs.Stands.{StandsFor}
 use Rattle.rls_seen.proofs.Editing.{edit_faults_alike, edited_stands}
 use Rattle.rls_seen.proofs.Making.{edited_sane}
 use Rattle.rls_undo.specs.Undoing.{unless, performed, performed_over, refusal, refusal_over}
-use Rattle.rls_undo.specs.UndoLaws.{AreEdits}
 use Rattle.rls_undo.proofs.Performed.{delete_edit}
 use Rattle.rls_steps.specs.declared.piece.Step.{Step}
 use Rattle.rls_steps.specs.Marks.{Piece, Put, Cut}

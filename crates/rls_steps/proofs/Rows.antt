@@ -20,13 +20,14 @@ use Rattle.rls_steps.specs.Rows.{IsRow, LiesBefore}
 use Rattle.rls_steps.proofs.Stretches.{in_named, in_reverse, name_in, named_in, none_in, reverse_in, sound_at}
 use Rattle.rls_steps.proofs.LabelSteps.{labels_apart}
 use Rattle.rls_steps.proofs.Found.{place_at}
-use Rattle.rls_steps.proofs.Tabling.{get_drop, get_take, place_is}
+use Rattle.rls_steps.proofs.Tabling.{get_take, place_is}
 use Rattle.rls_steps.proofs.Walking.{none_named, unlisted}
 use Rattle.rls_ident.proofs.Lists.{tri}
 use Rattle.rls_ident.proofs.Tuples.{tuples}
 use Rattle.rls_runs.specs.Places.{below_count}
 use Rattle.rls_runs.proofs.Gaps.{at_less, less_at}
 use Rattle.rls_runs.proofs.RunOrder.{rising_of, run_gets, run_rising}
+use Rattle.rls_tree.proofs.Puts.{get_drop}
 use Rattle.rls_undo.proofs.Finding.{found_at, missed_at}
 use Rattle.rls_steps.proofs.Intervals.{place_above, shifted_not_less}
 

@@ -350,7 +350,7 @@ in_list [] x i h e = absurd (omega (arith, h))
 in_list (y ∷ ys) x zero h e = inl e
 in_list (y ∷ ys) x (suc i) h e = inr (in_list ys x i (omega (arith, h)) e)
 
-list_at : (xs : List ℕ) (x : ℕ) → IsIn x xs → (i : ℕ) × (i < length xs) × (get_or xs i 0 ≡ x)
+pub list_at : (xs : List ℕ) (x : ℕ) → IsIn x xs → (i : ℕ) × (i < length xs) × (get_or xs i 0 ≡ x)
 list_at [] x p = absurd p
 list_at (y ∷ ys) x (inl e) = (0, omega arith, e)
 list_at (y ∷ ys) x (inr p) = let r = list_at ys x p in let h = r.1 in (suc r.0, omega (arith, h), r.2)

@@ -1,6 +1,6 @@
 -- Names of a run that are kept together.
-use Rattle.std.proofs.Common.{◌≡◌, ℕ, zero, suc, ◌+◌, ◌-◌, ◌<◌, ◌≤◌, Bool, true, List, [], ◌∷◌, ◌++◌, length, take, drop, get_or, refl, sym, ap, ◌∙◌, subst, arith}
-use Rattle.std.specs.Prelude.{Some, ◌==◌, ◌&&◌, ◌||◌, filter, reverse, is_ok, slice_get, nat_lt, nat_eq, Ok, if◌then◌else◌}
+use Rattle.std.proofs.Common.{◌≡◌, ℕ, zero, suc, ◌+◌, ◌-◌, ◌<◌, ◌≤◌, Bool, true, false, List, [], ◌∷◌, ◌++◌, length, take, drop, get_or, refl, sym, ap, ◌∙◌, subst, arith}
+use Rattle.std.specs.Prelude.{Some, ◌==◌, ◌&&◌, ◌||◌, cond, filter, reverse, is_ok, slice_get, nat_lt, nat_eq, Ok, Err, if◌then◌else◌}
 use Rattle.std.specs.List.{dedup}
 use Rattle.std.specs.List.Retain.{IsFiltered, DiffersFromLast}
 use Rattle.std.specs.List.Sorted.{IsSorted, IsNonDecreasing, IsBinarySearchResult}
@@ -17,7 +17,7 @@ use Rattle.rls_ident.specs.declared.tuple.Tuple.{Tuple}
 use Rattle.rls_ident.specs.Identifiers.{ident_eq}
 use Rattle.rls_ident.specs.Lists.{IsIn}
 use Rattle.rls_ident.proofs.Ends.{ident_eq_refl}
-use Rattle.rls_ident.proofs.Members.{bool_cases, eq_refl, same_bool, lt_is, not_lt_is, in_any, any_in}
+use Rattle.rls_ident.proofs.Members.{bool_cases, eq_is, eq_refl, same_bool, lt_is, not_lt_is, not_true, in_any, any_in}
 use Rattle.rls_runs.specs.Runs.{place_of}
 use Rattle.rls_steps.specs.Labelled.{Names}
 use Rattle.rls_steps.specs.NameRuns.{Stretch, name_at, names_of}
@@ -28,7 +28,7 @@ use Rattle.rls_steps.specs.Sweeping.{is_needed, is_that, is_newest, is_kept}
 use Rattle.rls_steps.proofs.Found.{contained, contains_in}
 use Rattle.rls_steps.proofs.Indexing.{tail_name}
 use Rattle.rls_steps.proofs.Stretches.{in_names, names_long}
-use Rattle.rls_steps.proofs.Swept.{in_list}
+use Rattle.rls_steps.proofs.Swept.{in_list, list_at}
 use Rattle.rls_steps.proofs.Walking.{newest_ident}
 
 -- ---- labels in increasing order, each once
@@ -86,6 +86,38 @@ needed_between ls a low high l r h first last above below =
 
 pub found_at : (xs : List ℕ) (x i : ℕ) → IsBinarySearchResult (λ y. nat_cmp y x) xs (Ok i) → IsRising xs → (i < length xs) × (get_or xs i 0 ≡ x)
 found_at xs x i b r = let s = rising_sorted xs r in searched xs x (Ok i) b (λ j k h l. s j k 0 h l)
+
+-- none of these lies between two that no place is between
+pub none_needed : (ls : List ℕ) (low high at l : ℕ) → IsBinarySearchResult (λ y. nat_cmp y low) ls (Err at) → IsRising ls → (at < length ls → high < get_or ls at 0) → low ≤ l → l ≤ high → is_needed ls l ≡ false
+none_needed ls low high at l b r f x y =
+    let s = rising_sorted ls r in
+    let m = searched ls low (Err at) b (λ i j h k. s i j 0 h k) in
+    not_true (is_needed ls l) (λ t.
+    let w = in_any (λ k. k == l) ls t in
+    let v = list_at ls w.0 w.1 in
+    let same = eq_is w.0 l w.2 in
+    let here = v.2 in
+    let h = v.1 in
+    bool_cases (nat_lt v.0 at)
+    (λ c. let less = m.1 v.0 (lt_is v.0 at c) in absurd (omega (arith, less, here, same, x)))
+    (λ c. let most = not_lt_is v.0 at c in
+    let over = f (omega (arith, most, h)) in
+    let up = s at v.0 0 most h in
+    absurd (omega (arith, over, up, here, same, y))))
+
+-- ---- names that go
+
+front_gone : (t : List Tuple × ℕ → Bool) (ns : Names) (n : ℕ) → ((j : ℕ) (m : List Tuple × ℕ) → j < n → slice_get ns j ≡ Some m → t m ≡ false) → filter t (take n ns) ≡ []
+front_gone t ns zero f = refl
+front_gone t [] (suc n) f = refl
+front_gone t (m ∷ ms) (suc n) f = ap (λ (c : Bool). cond c (m ∷ filter t (take n ms)) (filter t (take n ms))) (f 0 m (omega arith) refl) ∙ front_gone t ms n (λ j k h g. f (suc j) k (omega (arith, h)) g)
+
+-- none of these is kept
+pub none_kept : (t : List Tuple × ℕ → Bool) (ns : Names) (i n : ℕ) → ((j : ℕ) (m : List Tuple × ℕ) → j < n → slice_get ns (i + j) ≡ Some m → t m ≡ false) → filter t (take n (drop i ns)) ≡ []
+none_kept t ns zero n f = front_gone t ns n (λ j m h g. let z : 0 + j ≡ j = omega arith in f j m h (ap (slice_get ns) z ∙ g))
+none_kept t [] (suc i) zero f = refl
+none_kept t [] (suc i) (suc n) f = refl
+none_kept t (k ∷ ks) (suc i) n f = none_kept t ks i n (λ j m h g. let z : suc i + j ≡ suc (i + j) = omega arith in f j m h (ap (slice_get (k ∷ ks)) z ∙ g))
 
 -- ---- a run that is kept
 

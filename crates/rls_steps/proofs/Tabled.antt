@@ -4,13 +4,14 @@ use Rattle.std.specs.Prelude.{reverse, slice_get, Option, Some, None}
 use Rattle.std.proofs.lemmas.List.{take-take, drop-take, drop-drop}
 use Rattle.rls_ident.specs.declared.tuple.Tuple.{Tuple}
 use Rattle.rls_runs.specs.Entries.{Entries, idents_in}
+use Rattle.rls_tree.proofs.Puts.{get_drop}
 use Rattle.rls_model.proofs.Spliced.{take_map, drop_map}
 use Rattle.rls_seen.specs.Seen.{Seen, idents_over, text_over}
 use Rattle.rls_steps.specs.Marks.{Mark, marks, Cut}
 use Rattle.rls_steps.specs.Labelled.{Names, label_of, mark_by, mark, marked_by, labels_in, label_at, left_of, cut_piece}
 use Rattle.rls_steps.specs.Recorded.{held_by}
 use Rattle.rls_steps.specs.Tables.{given_labels, left_in}
-use Rattle.rls_steps.proofs.Tabling.{get_drop, get_take}
+use Rattle.rls_steps.proofs.Tabling.{get_take}
 
 -- ---- labels where there are some
 

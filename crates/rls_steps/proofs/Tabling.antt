@@ -11,6 +11,7 @@ use Rattle.rls_model.proofs.Spliced.{append_map}
 use Rattle.rls_runs.specs.Runs.{place_of}
 use Rattle.rls_runs.proofs.RunOrder.{AllMore, Rising, rising_left, rising_right}
 use Rattle.rls_runs.proofs.RunPlaces.{found_is, found_there}
+use Rattle.rls_tree.proofs.Puts.{get_drop}
 use Rattle.rls_steps.specs.Labelled.{Names, label_of}
 
 pub take_snoc : {A : Type 0} (xs : List A) (i : ℕ) (x : A) → slice_get xs i ≡ Some x → take (suc i) xs ≡ take i xs ++ x ∷ []
@@ -32,11 +33,6 @@ once (y ∷ ys) x zero zero r p q = refl
 once (y ∷ ys) x zero (suc j) r p q = let e : y ≡ x = cc in absurd (lt_irrefl (subst (λ z. Lt tuples z x) e (more_at y x ys r.0 (get_in ys j x q))))
 once (y ∷ ys) x (suc i) zero r p q = let e : y ≡ x = cc in absurd (lt_irrefl (subst (λ z. Lt tuples z x) e (more_at y x ys r.0 (get_in ys i x p))))
 once (y ∷ ys) x (suc i) (suc j) r p q = ap suc (once ys x i j r.1 p q)
-
-pub get_drop : {A : Type 0} (n k : ℕ) (xs : List A) → slice_get (drop n xs) k ≡ slice_get xs (n + k)
-get_drop zero k xs = let e : k ≡ 0 + k = omega arith in ap (slice_get xs) e
-get_drop (suc n) k [] = refl
-get_drop (suc n) k (x ∷ xs) = let e : suc (n + k) ≡ suc n + k = omega arith in get_drop n k xs ∙ ap (slice_get (x ∷ xs)) e
 
 pub get_take : {A : Type 0} (n k : ℕ) (xs : List A) → k < n → slice_get (take n xs) k ≡ slice_get xs k
 get_take zero k xs h = absurd (omega (arith, h))

@@ -29,6 +29,10 @@ abbrev pub IsFloor : List (ℕ × ℕ) → ℕ → Option (ℕ × ℕ) → Type 
 IsFloor es l None = (q : ℕ) → is_gt (nat_cmp q l) ≡ false → count_in es q ≡ None
 IsFloor es l (Some e) = (count_in es e.0 ≡ Some e.1) × (is_gt (nat_cmp e.0 l) ≡ false) × ((q : ℕ) → is_gt (nat_cmp q l) ≡ false → IsSome (count_in es q) → is_lt (nat_cmp e.0 q) ≡ false)
 
+-- the entry at the greatest number
+abbrev pub IsLastEntry : List (ℕ × ℕ) → ℕ × ℕ → Type 0
+IsLastEntry es e = (count_in es e.0 ≡ Some e.1) × ((q : ℕ) → IsSome (count_in es q) → is_lt (nat_cmp e.0 q) ≡ false)
+
 -- the least number above this label
 abbrev pub IsNextAt : List (ℕ × ℕ) → ℕ → Option ℕ → Type 0
 IsNextAt es l None = (q : ℕ) → l < q → count_in es q ≡ None

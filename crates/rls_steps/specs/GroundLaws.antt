@@ -6,6 +6,7 @@ use Rattle.rls_model.specs.Document.{text}
 use Rattle.rls_model.specs.History.{History}
 use Rattle.rls_model.specs.Legal.{IsLegal}
 use Rattle.rls_model.specs.Receiving.{State}
+use Rattle.rls_model.specs.Laws.{AreEdits}
 use Rattle.rls_replica.specs.Names.{keeps}
 use Rattle.rls_seen.specs.Sane.{IsSane}
 use Rattle.rls_seen.specs.Seen.{Seen}
@@ -14,7 +15,6 @@ use Rattle.rls_steps.specs.declared.piece.Step.{Step}
 use Rattle.rls_steps.specs.Marks.{Piece, Put, Cut}
 use Rattle.rls_steps.specs.Recorded.{Recorded}
 use Rattle.rls_undo.specs.Undoing.{performed, performed_over, refusal, refusal_over}
-use Rattle.rls_undo.specs.UndoLaws.{AreEdits}
 use Rattle.rls_steps.specs.Grounds.{over, within, Turned, recorded_on, back_on, again_on, kept_on, back_edits, again_edits}
 
 -- the text that was cut out consists of characters

@@ -4,6 +4,7 @@ pub mod Back
 pub mod BackLaws
 pub mod Labelled
 pub mod NameRuns
+pub mod Heights
 pub mod Index
 pub mod Bounds
 pub mod Intervals

@@ -1,8 +1,8 @@
 //! Which runs may have names of a label.
 
-ghost use Rattle.std.specs.Prelude.{◌≡◌, ◌<◌, ◌≤◌, ◌+◌, ◌^◌, ◌⊎◌, ◌++◌, ◌∷◌, [], ℕ, List, length, slice_get, Some, None, OnOk, OnErr, IsTrue};
+ghost use Rattle.std.specs.Prelude.{◌≡◌, ◌<◌, ◌≤◌, ◌+◌, ◌^◌, ◌⊎◌, ◌++◌, ◌∷◌, [], ℕ, List, length, slice_get, Some, None, IfSome, OnOk, OnErr, IsTrue};
 ghost use Rattle.rls_steps.specs.NameRuns.{Stretch};
-ghost use Rattle.rls_steps.specs.Bounds.{AreBounded, AreCounted, HasLabel, HasBetween, HaveNone, IsBound, IsBoundAt, IsFloor, IsNextAt, IsPut, count_in};
+ghost use Rattle.rls_steps.specs.Bounds.{AreBounded, AreCounted, HasLabel, HasBetween, HaveNone, IsBound, IsBoundAt, IsFloor, IsLastEntry, IsNextAt, IsPut, count_in};
 
 use std::alloc::{AllocError, Global};
 use std::collections::BTreeMap;
@@ -83,7 +83,7 @@ impl Bounds {
     }
 
     // Whether only the first runs up to the last one of so many may have a label, and no run has it or a greater one: so the last one may
-    // get it, and nothing changes here but what is above all. It costs a search.
+    // get it, and nothing changes here but what is above all. It costs a look at the last entry.
     pub(crate) fn is_open(&self, label: u64, runs: usize) -> bool
         ensures above { IsTrue result → self.now.above ≤ label }
         ensures more { IsTrue result → label + 1 < 2 ^ 64 }
@@ -92,9 +92,9 @@ impl Bounds {
         if label < self.above || label == u64::MAX {
             return false;
         }
-        match bound_at(&self.counts, label) {
+        match last_bound(&self.counts) {
             None => false,
-            Some((_, count)) => runs <= count,
+            Some((last, count)) => last <= label && runs <= count,
         }
     }
 
@@ -210,6 +210,16 @@ fn floor_of(counts: &BTreeMap<u64, usize>, label: u64) -> Option<(u64, usize)>
     {
         None => None,
         Some((low, count)) => Some((*low, *count)),
+    }
+}
+
+// The entry at the greatest number.
+fn last_bound(counts: &BTreeMap<u64, usize>) -> Option<(u64, usize)>
+    ensures last { IfSome result (λ e. IsLastEntry counts.now.entries e) }
+{
+    match counts.last_key_value() {
+        None => None,
+        Some((last, count)) => Some((*last, *count)),
     }
 }
 

@@ -22,6 +22,9 @@ pub(crate) fn name_inserted(names: &mut Names, op: &Op, labels: &[u64]) -> Resul
 {
     match &op.body {
         Body::Insert { first, text } => {
+            if text.len() == 1 && labels.len() == 1 {
+                return name_one(names, first, labels);
+            }
             let run = run_of(first, text.len())?;
             match rising_from(labels, run.len()) {
                 Some(label) => name_run(names, &run, label),
@@ -30,6 +33,16 @@ pub(crate) fn name_inserted(names: &mut Names, op: &Op, labels: &[u64]) -> Resul
         }
         _ => Ok(()),
     }
+}
+
+// Names the identifier of one character.
+fn name_one(names: &mut Names, first: &Ident, labels: &[u64]) -> Result<(), AllocError>
+    requires one { length labels.now ≡ 1 }
+    ensures ok { OnOk result (reverse names.new ≡ zip (run_idents first.now 1) labels.now ++ reverse names.old) }
+    ensures front { take (length names.old) names.new ≡ names.old }
+{
+    names.push(first, labels[0])?;
+    Ok(())
 }
 
 // The run of so many identifiers. There is always one, where an insertion has them.

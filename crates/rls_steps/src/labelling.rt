@@ -230,7 +230,7 @@ pub(crate) fn translated(
         let Ok(ident) = replica.ident_to_greatest(epoch, &ident) else {
             return Err(AllocError);
         };
-        there.push(ident, label)?;
+        there.push(&ident, label)?;
     }
     Ok(there)
 }

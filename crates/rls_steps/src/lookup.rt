@@ -27,7 +27,8 @@ pub(crate) fn label_at(runs: &[NameRun], firsts: &BTreeMap<Key, usize>, key: &Ke
     }
 }
 
-/// The label of an identifier, if it has one, and how many there are of it and the next ones, of at most so many, with labels that rise.
+/// The label of an identifier, if it has one, and how many there are of it and the next ones, of at most so many, with labels that rise. It
+/// costs two searches among the runs, or nothing where it is in the newest one.
 pub(crate) fn labels_at(
     runs: &[NameRun],
     firsts: &BTreeMap<Key, usize>,
@@ -44,6 +45,9 @@ pub(crate) fn labels_at(
     ensures labels { AreLabels (reverse (named runs.now)) key.now.ident result }
 {
     rely!(let _last = key.ident.last());
+    if let Some(labels) = labels_in(runs, newest_run(runs), &key.ident, most) {
+        return Some(labels);
+    }
     match labels_in(runs, run_below(firsts, key), &key.ident, most) {
         Some(labels) => Some(labels),
         None => labels_in(runs, run_above(firsts, key), &key.ident, most),
@@ -126,6 +130,16 @@ fn labels_in(runs: &[NameRun], run: Option<usize>, ident: &Ident, most: u32) -> 
         None => None,
         Some(i) => runs[i].labels_from(ident, most),
     }
+}
+
+// The newest run.
+fn newest_run(runs: &[NameRun]) -> Option<usize>
+    ensures within { IfSome result (λ i. i < length runs.now) }
+{
+    if runs.is_empty() {
+        return None;
+    }
+    Some(runs.len() - 1)
 }
 
 // The run that begins with the greatest identifier up to this one.

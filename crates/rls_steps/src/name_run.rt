@@ -4,8 +4,10 @@ ghost use Rattle.std.specs.Prelude.{◌≡◌, ◌<◌, ◌≤◌, ◌+◌, ◌-
 ghost use Rattle.rls_ident.specs.declared.tuple.Tuple.{Tuple};
 ghost use Rattle.rls_ident.specs.Identifiers.{shifted};
 ghost use Rattle.rls_ident.specs.Lists.{IsIn};
+ghost use Rattle.rls_steps.specs.Heights.{AreUpTo, IsOver};
 ghost use Rattle.rls_steps.specs.NameRuns.{IsStretch, AreLabelsOf, AreOutside, name_at, names_in, names_of, names_by, step_by};
 
+use crate::height::Height;
 use rls_ident::{Ident, Spot, rely};
 use std::alloc::AllocError;
 use std::marker::Model;
@@ -184,6 +186,30 @@ impl NameRun {
             return self.ident(count - 1);
         }
         self.first.copy()
+    }
+
+    // How far the identifiers go.
+    pub(crate) fn height(&self) -> Height
+        ensures all { AreUpTo result (names_of self.now) }
+    {
+        rely!(let _len = self.len());
+        let last = self.first.last();
+        if self.down {
+            return Height::of(last);
+        }
+        Height::of(last.raised(self.len - 1))
+    }
+
+    // Whether each identifier goes further than this. It takes no memory.
+    pub(crate) fn is_over(&self, height: Height) -> bool
+        ensures over { IsTrue result → (k : ℕ) → k < self.now.len → IsOver height (name_at self.now k).0 }
+    {
+        rely!(let _len = self.len());
+        let last = self.first.last();
+        if self.down {
+            return height.is_under(Height::of(last.lowered(self.len - 1)));
+        }
+        height.is_under(Height::of(last))
     }
 
     // The least label and the greatest one.

@@ -13,12 +13,14 @@ ghost use Rattle.rls_ident.specs.Lists.{IsIn};
 ghost use Rattle.rls_steps.specs.declared.key.Key as keys;
 
 use crate::bound::Bounds;
+use crate::height::Height;
 use crate::interval::{Interval, Intervals, interval_in, push_interval};
 use crate::key::Key;
 use crate::latest::newest_in;
 use crate::lookup::{free_at, is_free, label_at, labels_at};
 use crate::name_row::{NameRow, row_from};
 use crate::name_run::NameRun;
+use crate::places::{LabelsAhead, latest_at, name_in, rest_at, run_at};
 use rls_ident::{Ident, rely};
 use std::alloc::{AllocError, Global};
 use std::collections::BTreeMap;
@@ -39,6 +41,8 @@ pub(crate) struct Names {
     intervals: Intervals,
     // How many names there are.
     len: usize,
+    // How far their identifiers go, at most.
+    height: Height,
 }
 
 impl Model for Names {
@@ -51,7 +55,7 @@ impl Model for Names {
 
     ghost view = { λ n. named n.runs.items };
 
-    ghost invariant = { λ n. IsIndexed n.runs.items n.starts.items n.firsts.entries n.bounds n.intervals.items n.len };
+    ghost invariant = { λ n. IsIndexed n.runs.items n.starts.items n.firsts.entries n.bounds n.intervals.items n.len n.height };
 }
 
 impl Names {
@@ -66,6 +70,7 @@ impl Names {
             bounds: Bounds::new(alloc),
             intervals: Vec::new(alloc),
             len: 0,
+            height: Height::least(),
         }
     }
 
@@ -88,15 +93,19 @@ impl Names {
         rely!(let _runs = &self.runs);
     }
 
-    // The label of an identifier, if it has one. It costs two searches among the runs.
+    // The label of an identifier, if it has one. It costs two searches among the runs, but where it is in the newest
+    // one, or no name goes as far.
     pub(crate) fn label_of(&self, key: &Key) -> Option<u64>
         ensures label { result ≡ label_of (reverse self.now) key.now.ident }
     {
+        if self.is_over(&key.ident) {
+            return None;
+        }
         label_at(&self.runs, &self.firsts, key)
     }
 
     // The label of an identifier, if it has one, and how many there are of it and the next ones, of at most so many, with labels that rise,
-    // as far as one run of names tells. It costs two searches among the runs.
+    // as far as one run of names tells. It costs what `label_of` does.
     pub(crate) fn labels_from(&self, key: &Key, most: u32) -> Option<(u64, u32)>
         requires some { 0 < most }
         ensures some { IfSome result (λ p. 0 < p.1) }
@@ -104,7 +113,17 @@ impl Names {
         ensures room { IfSome result (λ p. p.0 + p.1 ≤ 2 ^ 64) }
         ensures labels { AreLabels (reverse self.now) key.now.ident result }
     {
+        if self.is_over(&key.ident) {
+            return None;
+        }
         labels_at(&self.runs, &self.firsts, key, most)
+    }
+
+    // Whether an identifier goes further than all names, so that it has no label.
+    fn is_over(&self, ident: &Ident) -> bool
+        ensures none { IsTrue result → label_of (reverse self.now) ident.now ≡ None }
+    {
+        self.height.is_under(Height::of(ident.last()))
     }
 
     // How many identifiers of so many, from one on that has no label, have none. It costs a search among the runs.
@@ -171,6 +190,16 @@ impl Names {
         Ok(row)
     }
 
+    // How many names there are of the run at a place from there on, and between which labels theirs are. It costs a search among the runs.
+    pub(crate) fn rest_of_run(&self, i: usize) -> LabelsAhead
+        requires place { i < length self.now }
+        ensures some { 0 < result.count }
+        ensures within { i + result.count ≤ length self.now }
+        ensures labels { (j : ℕ) (n : List Tuple × ℕ) → j < result.count → slice_get self.now (i + j) ≡ Some n → (result.low ≤ n.1) × (n.1 ≤ result.high) }
+    {
+        rest_at(&self.runs, &self.starts, i)
+    }
+
     // The names of a run, if it begins at this place and each of them is the newest of its label. It costs a few searches.
     pub(crate) fn latest_run(&self, i: usize) -> Result<Option<NameRun>, AllocError>
         requires place { i < length self.now }
@@ -180,35 +209,41 @@ impl Names {
         Ok(run)
     }
 
-    // One more name. An identifier that is there already answers as if there was no memory: no replica makes one twice.
-    pub(crate) fn push(&mut self, ident: Ident, label: u64) -> Result<(), AllocError>
-        ensures names { OnOk result (self.new ≡ self.old ++ (ident, label) ∷ []) }
+    // One more name. An identifier that is there already answers as if there was no memory: no replica makes one twice. One that goes
+    // further than all names isn't looked up, and is copied only if the last run doesn't go on with it.
+    pub(crate) fn push(&mut self, ident: &Ident, label: u64) -> Result<(), AllocError>
+        ensures names { OnOk result (self.new ≡ self.old ++ (ident.now, label) ∷ []) }
         ensures stay { OnErr result (self.new ≡ self.old) }
     {
-        let key = Key { ident };
+        if self.is_over(ident) {
+            return self.add(ident, label);
+        }
+        let key = Key {
+            ident: ident.copy()?,
+        };
         match self.label_of(&key) {
             Some(_) => Err(AllocError),
-            None => self.add(key, label),
+            None => self.add(ident, label),
         }
     }
 
     // The same of an identifier that isn't there.
-    fn add(&mut self, key: Key, label: u64) -> Result<(), AllocError>
-        requires fresh { label_of (reverse self.old) key.ident ≡ None }
-        ensures names { OnOk result (self.new ≡ self.old ++ (key.ident, label) ∷ []) }
+    fn add(&mut self, ident: &Ident, label: u64) -> Result<(), AllocError>
+        requires fresh { label_of (reverse self.old) ident.now ≡ None }
+        ensures names { OnOk result (self.new ≡ self.old ++ (ident.now, label) ∷ []) }
         ensures stay { OnErr result (self.new ≡ self.old) }
     {
-        if self.extend(&key, label) {
+        if self.extend(ident, label) {
             return Ok(());
         }
-        let _rest = self.add_front(NameRun::of(key.ident, label))?;
+        let _rest = self.add_front(NameRun::of(ident.copy()?, label))?;
         Ok(())
     }
 
     // The same, if the last run goes on with it and no name has its label or a greater one. It takes no memory.
-    fn extend(&mut self, key: &Key, label: u64) -> bool
-        requires fresh { label_of (reverse self.old) key.now.ident ≡ None }
-        ensures names { IsTrue result → self.new ≡ self.old ++ (key.now.ident, label) ∷ [] }
+    fn extend(&mut self, ident: &Ident, label: u64) -> bool
+        requires fresh { label_of (reverse self.old) ident.now ≡ None }
+        ensures names { IsTrue result → self.new ≡ self.old ++ (ident.now, label) ∷ [] }
         ensures stay { IsFalse result → self.new ≡ self.old }
     {
         let Some(len) = self.len.checked_add(1) else {
@@ -217,11 +252,12 @@ impl Names {
         if !self.bounds.is_open(label, self.runs.len()) {
             return false;
         }
-        if !extend_last(&mut self.runs, &key.ident, label) {
+        if !extend_last(&mut self.runs, ident, label) {
             return false;
         }
         self.bounds.above = label + 1;
         self.len = len;
+        self.height = self.height.max(Height::of(ident.last()));
         true
     }
 
@@ -233,7 +269,7 @@ impl Names {
     {
         if run.len() == 1 {
             let label = run.label(0);
-            self.push(run.into_first(), label)?;
+            self.push(&run.into_first(), label)?;
             return Ok(());
         }
         let count = self.len();
@@ -264,14 +300,24 @@ impl Names {
         ensures front { take (length self.old) self.new ≡ self.old }
         ensures fewer { IfOk result (λ rest. length (names_in rest) < run.len) }
     {
+        if !self.is_free(&run)? {
+            return Err(AllocError);
+        }
+        self.add_front(run)
+    }
+
+    // Whether no identifier of a run is there. It costs a few searches, but where no name goes as far.
+    fn is_free(&self, run: &NameRun) -> Result<bool, AllocError>
+        ensures free { IfOk result (λ free. IsTrue free → (k : ℕ) → k < run.now.len → label_of (reverse self.now) (name_at run.now k).0 ≡ None) }
+    {
+        if run.is_over(self.height) {
+            return Ok(true);
+        }
         let low = Key {
             ident: run.least()?,
         };
         let free = is_free(&self.runs, &self.firsts, &low, run.len() as u32)?;
-        if !free {
-            return Err(AllocError);
-        }
-        self.add_front(run)
+        Ok(free)
     }
 
     // The same of a run of which no identifier is there.
@@ -289,6 +335,7 @@ impl Names {
         let Some(len) = self.len.checked_add(front.len()) else {
             return Err(AllocError);
         };
+        let height = self.height.max(front.height());
         let runs = self.runs.len();
         let interval = interval_in(
             &self.runs,
@@ -308,6 +355,7 @@ impl Names {
             self.len,
         )?;
         self.len = len;
+        self.height = height;
         Ok(rest)
     }
 
@@ -330,62 +378,6 @@ impl Names {
             self.pop();
         }
     }
-}
-
-// The name at a place.
-fn name_in(runs: &Vec<NameRun>, starts: &[usize], i: usize) -> Result<(Ident, u64), AllocError>
-    requires starts { starts.now ≡ starts_of 0 runs.now.items }
-    requires place { i < length (named runs.now.items) }
-    ensures name { IfOk result (λ n. slice_get (named runs.now.items) i ≡ Some n) }
-{
-    let k = run_at(starts, i);
-    let place = i - starts[k];
-    let run = &runs[k];
-    Ok((run.ident(place)?, run.label(place)))
-}
-
-// The names of a run, if it begins at this place and each of them is the newest of its label.
-fn latest_at(
-    runs: &[NameRun],
-    starts: &[usize],
-    bounds: &Bounds,
-    i: usize,
-) -> Result<Option<NameRun>, AllocError>
-    requires sound { AreSound runs.now }
-    requires starts { starts.now ≡ starts_of 0 runs.now }
-    requires bounded { AreBounded runs.now bounds.now }
-    requires place { i < length (named runs.now) }
-    ensures run { IfOk result (λ o. IfSome o (λ r. IsLatest (named runs.now) i r)) }
-{
-    let k = run_at(starts, i);
-    let run = &runs[k];
-    let (low, high) = run.labels();
-    let span = bounds.span_at(low);
-    if starts[k] == i && span.count <= k + 1 && high <= span.high {
-        let copy = run.copy()?;
-        return Ok(Some(copy));
-    }
-    Ok(None)
-}
-
-// The last of these increasing numbers that is at most i, as the first is.
-fn run_at(starts: &[usize], i: usize) -> usize
-    requires some { 0 < length starts.now }
-    requires first { slice_index starts.now 0 ≤ i }
-    ensures within { result < length starts.now }
-    ensures below { slice_index starts.now result ≤ i }
-    ensures above { result + 1 < length starts.now → i < slice_index starts.now (result + 1) }
-{
-    let (mut low, mut high) = (0, starts.len());
-    while low + 1 < high {
-        let middle = low + (high - low) / 2;
-        if starts[middle] <= i {
-            low = middle;
-        } else {
-            high = middle;
-        }
-    }
-    low
 }
 
 // One more run of names. After an error all is as before.

@@ -1,6 +1,6 @@
 //! Names that no step needs, which go.
 
-ghost use Rattle.std.specs.Prelude.{◌≡◌, ◌<◌, ◌≤◌, ◌+◌, ◌++◌, ◌∷◌, [], ℕ, List, length, take, drop, filter, reverse, slice_get, Some, IfOk, IfSome, OnOk, IsTrue, true};
+ghost use Rattle.std.specs.Prelude.{◌≡◌, ◌<◌, ◌≤◌, ◌+◌, ◌++◌, ◌∷◌, [], ℕ, List, length, take, drop, filter, reverse, slice_get, Some, IfOk, IfSome, OnOk, IsTrue, IsFalse, true, false};
 ghost use Rattle.std.specs.List.Sorted.{IsNonDecreasing};
 ghost use Rattle.rls_ident.specs.declared.tuple.Tuple.{Tuple};
 ghost use Rattle.rls_ident.specs.Lists.{IsIn};
@@ -15,15 +15,16 @@ use crate::name_run::NameRun;
 use crate::names::Names;
 use crate::pending::{add_pending, push_pending};
 use crate::piece::{Piece, Step};
+use crate::places::LabelsAhead;
 use rls_ident::Ident;
 use rls_replica::Replica;
 use std::alloc::{AllocError, Global};
 
 /// The names that are kept beside these steps. All are in the greatest epoch.
 ///
-/// It costs a sort of the labels that the steps name; for each run of names a few searches among these and among the names, where all of
-/// the run is kept as the newest of its labels; and else for each of its names a search among the labels, and one in the text for each but
-/// the newest of a label.
+/// It costs a sort of the labels that the steps name; for each run of names a search among these, and a few among the names, where all of
+/// the run is kept as the newest of its labels; and else for each of its names up to the last one that is needed a few searches among the
+/// labels, and one in the text for each but the newest of a label.
 pub(crate) fn kept_names(
     replica: &Replica,
     names: &Names,
@@ -113,8 +114,9 @@ fn kept_among(replica: &Replica, names: &Names, labels: &[u64]) -> Result<Names,
     Ok(kept)
 }
 
-// The next names that are kept, too: those of a run, if it begins at this place and all of it is kept as the newest of its labels, or else
-// the name at the place, if it is kept. Answers the names that wait now, and how many were looked at.
+// The next names that are kept, too: none of the rest of a run, if no step names one of its labels; or those of a run, if it begins at this
+// place and all of it is kept as the newest of its labels; or else the name at the place, if it is kept. Answers the names that wait now,
+// and how many were looked at.
 fn add_next(
     kept: &mut Names,
     last: Option<NameRun>,
@@ -129,6 +131,10 @@ fn add_next(
     ensures within { IfOk result (λ p. i + p.1 ≤ length names.now) }
     ensures kept { IfOk result (λ p. kept.new ++ names_in p.0 ≡ (kept.old ++ names_in last) ++ filter (is_kept (idents_over replica.now) labels.now (reverse names.now)) (take p.1 (drop i names.now))) }
 {
+    let ahead = names.rest_of_run(i);
+    if !any_needed(labels, ahead) {
+        return Ok((last, ahead.count));
+    }
     match whole_run(names, labels, i)? {
         Some(run) => {
             let count = run.len();
@@ -209,6 +215,25 @@ fn are_needed(labels: &[u64], run: &NameRun) -> bool
         Ok(at) => {
             let more = high - low;
             more < (labels.len() - at) as u64 && labels[at + more as usize] == high
+        }
+    }
+}
+
+// Whether one of these labels, which are in increasing order, is between those of names. It costs a search.
+fn any_needed(labels: &[u64], ahead: LabelsAhead) -> bool
+    requires rising { IsRising labels.now }
+    ensures none { IsFalse result → (l : ℕ) → ahead.low ≤ l → l ≤ ahead.high → is_needed labels.now l ≡ false }
+{
+    match labels.binary_search(&ahead.low) {
+        Ok(_) => true,
+        Err(at) => {
+            if at == labels.len() {
+                return false;
+            }
+            if labels[at] > ahead.high {
+                return false;
+            }
+            true
         }
     }
 }

@@ -1,9 +1,9 @@
 use Rattle.std.proofs.Common.{◌+◌, drop, refl, ◌∙◌, arith}
+use Rattle.rls_tree.proofs.Puts.{get_drop}
 use Rattle.std.specs.Prelude.{slice_index}
 use Rattle.std.proofs.lemmas.Option.{slice_get-get_or, slice_get_within}
 use Rattle.rls_steps.proofs.FreeRuns.{rising_next}
 use Rattle.rls_steps.proofs.SweptRuns.{take_one}
-use Rattle.rls_steps.proofs.Tabling.{get_drop}
 use Rattle.rls_steps.proofs.finding.rising.Goals as goal
 
 pub labels-init : goal.labels-init

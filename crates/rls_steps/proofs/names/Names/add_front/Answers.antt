@@ -6,6 +6,7 @@ use Rattle.rls_steps.specs.Index.{AreApart}
 use Rattle.rls_steps.specs.Bounds.{AreBounded}
 use Rattle.rls_steps.specs.Intervals.{AreBetween, AreNoted}
 use Rattle.rls_steps.specs.Indexed.{IsIndexed}
+use Rattle.rls_steps.proofs.Heights.{up_to_more}
 use Rattle.rls_steps.proofs.Indexing.{indexed_run}
 use Rattle.rls_steps.proofs.FreeRuns.{run_apart}
 use Rattle.rls_steps.proofs.Intervals.{between_more}
@@ -55,6 +56,9 @@ invariant_of-self-2 c =
     let between = between_more rs span.count low high span.low span.high c.len-runs.result c.in_ok-interval.interval size none below above
     (subst (λ (qs : List Stretch). AreBetween qs span.count low high c.in_ok-interval.interval) c.deref.ensures.value c.in_ok-interval.ensures.between) in
     let noted = subst (λ qs. AreNoted qs us) (sym c.in_ok-put_run.ensures.more) (c.in_ok-push_interval.ensures.put rs r low high size c.self.invariant.noted c.labels-low.ensures.labels between) in
-    subst (λ n. IsIndexed c.put_run.new.runs.items c.put_run.new.starts.items c.put_run.new.firsts.entries c.put.new.self us n) more
-    (indexed_run rs c.put_run.new.runs.items c.self.inside.starts.items c.put_run.new.starts.items c.self.inside.firsts.entries c.put_run.new.firsts.entries c.self.inside.bounds c.put.new.self vs us c.self.inside.len r c.self.invariant
-    (c.in_ok-put_run.ensures.kept c.self.invariant.kept) bounded noted c.in_ok-put_run.ensures.names apart)
+    let h = c.self.inside.height in
+    let h' = c.max-height.result in
+    let far = up_to_more h c.height.result h' (named rs) (named c.put_run.new.runs.items) (names_of r) c.self.invariant.far c.height.ensures.all c.max-height.ensures.own c.max-height.ensures.other c.in_ok-put_run.ensures.names in
+    subst (λ n. IsIndexed c.put_run.new.runs.items c.put_run.new.starts.items c.put_run.new.firsts.entries c.put.new.self us n h') more
+    (indexed_run rs c.put_run.new.runs.items c.self.inside.starts.items c.put_run.new.starts.items c.self.inside.firsts.entries c.put_run.new.firsts.entries c.self.inside.bounds c.put.new.self vs us c.self.inside.len h h' r c.self.invariant
+    (c.in_ok-put_run.ensures.kept c.self.invariant.kept) bounded noted c.in_ok-put_run.ensures.names apart far)

@@ -11,7 +11,7 @@ drop_last-requires c =
 
 pub invariant_of-self : goal.invariant_of-self
 invariant_of-self c =
-    indexed_less c.self.inside.runs.items c.drop_last.new.runs.items c.self.inside.starts.items c.drop_last.new.starts.items c.self.inside.firsts.entries c.drop_last.new.firsts.entries c.self.inside.bounds c.self.inside.intervals.items c.self.inside.len c.self.invariant
+    indexed_less c.self.inside.runs.items c.drop_last.new.runs.items c.self.inside.starts.items c.drop_last.new.starts.items c.self.inside.firsts.entries c.drop_last.new.firsts.entries c.self.inside.bounds c.self.inside.intervals.items c.self.inside.len c.self.inside.height c.self.invariant
     c.drop_last.ensures.kept c.drop_last.ensures.fewer c.drop_last.ensures.count c.drop_last.ensures.names
 
 pub returns : goal.returns

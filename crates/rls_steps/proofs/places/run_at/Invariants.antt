@@ -1,6 +1,6 @@
 use Rattle.std.proofs.Common.{◌-◌, ◌<◌, ◌≤◌, length}
 use Rattle.std.specs.Prelude.{slice_index}
-use Rattle.rls_steps.proofs.names.run_at.Given as goal
+use Rattle.rls_steps.proofs.places.run_at.Given as goal
 
 -- the number at low is at most i, and that at high isn't
 abbrev pub invariant-loop-low : goal.invariant-loop-low

@@ -1,6 +1,6 @@
 use Rattle.std.proofs.Common.{length, ap, ◌∙◌, arith}
 use Rattle.rls_steps.proofs.Indexing.{starts_long, read_run, some_starts, first_start, place_short, place_name}
-use Rattle.rls_steps.proofs.names.name_in.Goals as goal
+use Rattle.rls_steps.proofs.places.name_in.Goals as goal
 
 pub run_at-k-requires-clause-some : goal.run_at-k-requires-clause-some
 run_at-k-requires-clause-some c = some_starts c.args.runs.now.items c.args.starts.now c.args.i c.requires.starts c.requires.place

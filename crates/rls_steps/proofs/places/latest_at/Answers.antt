@@ -6,7 +6,7 @@ use Rattle.rls_steps.specs.Bounds.{IsLatest}
 use Rattle.rls_steps.proofs.Indexing.{starts_long, some_starts, first_start}
 use Rattle.rls_steps.proofs.LabelRuns.{run_latest}
 use Rattle.rls_steps.proofs.Bounded.{none_within}
-use Rattle.rls_steps.proofs.names.latest_at.Goals as goal
+use Rattle.rls_steps.proofs.places.latest_at.Goals as goal
 
 pub run_at-k-requires-clause-some : goal.run_at-k-requires-clause-some
 run_at-k-requires-clause-some c = some_starts c.args.runs.now c.args.starts.now c.args.i c.requires.starts c.requires.place
@@ -38,7 +38,7 @@ returns-then-high-span c =
     let long = ap length c.requires.starts ∙ starts_long 0 rs in
     let h = c.run_at-k.ensures.within in
     let g = slice_get_read rs (length rs) k r refl (omega (arith, long, h)) c.index-runs-k.is in
-    let here : get_or ss k 0 ≡ c.args.i = omega (arith, c.if-starts-k.true) in
+    let here : get_or ss k 0 ≡ c.args.i = omega (arith, c.if-starts-k.false) in
     let at = slice_get-get_or ss k 0 h ∙ ap Some here in
     let least = c.span_at-span.ensures.low in
     let none = none_within rs span.count (k + 1) (length rs) span.low low span.high high (c.span_at-span.ensures.none rs c.requires.bounded) (omega (arith, c.if-span-k.true)) least (omega (arith, c.if-high-span.true)) in
