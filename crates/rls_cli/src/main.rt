@@ -9,7 +9,7 @@ mod streams;
 use folder::{FolderKeeper, folder_keeper};
 use given::words;
 use performing::perform_given;
-use rls_io::{StdSink, StdSource};
+use rls_io::StdDevice;
 use std::io;
 use std::process::ExitCode;
 use streams::{Guard, guard_streams};
@@ -29,9 +29,9 @@ fn keeper<'a>(
 fn main(rt: HostRuntime) -> ExitCode {
     let guard = guard_streams(&rt);
     let mut keeper = keeper(&rt, &guard);
-    let mut input = StdSource::new(rt.stdin().lock());
-    let mut output = StdSink::new(rt.stdout());
-    let mut errors = StdSink::new(rt.stderr());
+    let mut input = StdDevice::new(rt.stdin().lock());
+    let mut output = StdDevice::new(rt.stdout());
+    let mut errors = StdDevice::new(rt.stderr());
     let status = perform_given(
         rt.alloc(),
         words(&rt),

@@ -4,7 +4,7 @@ use Rattle.std.proofs.lemmas.Bool.Decides.{leb_tells}
 use Rattle.std.proofs.lemmas.List.{take_all, take-append-le}
 use Rattle.rls_journal.specs.Areas.{Areas, area_of, with_area}
 use Rattle.rls_journal.specs.Disk.{Tears, Writes, MayTear, Narrows, Follows, IsDurable, Elapses}
-use Rattle.rls_journal.specs.Memory.{DeviceCall, Looked, Wrote, Synced, DiskState, seen_step, LeavesStep, area_after, LeavesArea, areas_after, MayLeave, MightHaveLeft, reading, can_leave, might_have_left, done, refused}
+use Rattle.rls_journal.specs.Memory.{DeviceCall, Looked, Wrote, Synced, DiskState, seen_step, LeavesStep, area_after, LeavesArea, areas_after, MayLeave, MightHaveLeft, reading, can_leave, might_have_left, IsQuiet, done, refused}
 use Rattle.rls_journal.specs.MemoryLaws.{torn_same}
 use Rattle.rls_journal.proofs.Recorded.{looked_same, synced_same, wrote_area}
 
@@ -89,12 +89,6 @@ elapses_behind first calls call = record {
 
 abbrev pub Goes : DiskState → DiskState → Type 0
 Goes old new = Elapses (length old.calls) (length new.calls) (might_have_left old) (might_have_left new) (can_leave new)
-
--- nothing that is read changes, and no outcome of a crash is new
-pub record IsQuiet (old new : DiskState) : Type 0 where
-  pub same : reading new ≡ reading old
-  pub narrows : Narrows (can_leave old) (can_leave new)
-  pub goes : Goes old new
 
 quiet_done : (s : DiskState) → IsQuiet s (done s Looked)
 quiet_done s = record { same = looked_same s.first s.calls; narrows = looked_narrows s.first s.calls; goes = elapses_behind s.first s.calls Looked }

@@ -1,10 +1,10 @@
 -- What a disk in memory is seen as, and what a crash may leave of it.
-use Rattle.std.specs.Prelude.{◌≡◌, ◌⊎◌, ℕ, ◌+◌, ◌<◌, ◌≤◌, List, [], ◌∷◌, ◌++◌, length, take, replicate, nat_le, nat_lt, ◌==◌, if◌then◌else◌}
+use Rattle.std.specs.Prelude.{◌≡◌, ◌⊎◌, ℕ, ◌+◌, ◌<◌, ◌≤◌, Bool, true, false, List, [], ◌∷◌, ◌++◌, length, take, replicate, nat_le, nat_lt, ◌==◌, if◌then◌else◌}
 use Rattle.std.specs.Bool.{MatchBool}
 use Rattle.std.specs.List.{Contains}
 use Rattle.rls_io.specs.Device.{one_more}
 use Rattle.rls_journal.specs.Areas.{Areas, spliced}
-use Rattle.rls_journal.specs.Disk.{Torn}
+use Rattle.rls_journal.specs.Disk.{Torn, Narrows, Elapses}
 
 -- what a call did
 pub data DeviceCall : Type 0 where
@@ -96,6 +96,12 @@ can_leave s = MayLeave s.first s.calls
 abbrev pub might_have_left : DiskState → ℕ → Areas → Type 0
 might_have_left s = MightHaveLeft s.first s.calls
 
+-- nothing that is read changes, and no outcome of a crash is new
+pub record IsQuiet (old new : DiskState) : Type 0 where
+  pub same : reading new ≡ reading old
+  pub narrows : Narrows (can_leave old) (can_leave new)
+  pub goes : Elapses (length old.calls) (length new.calls) (might_have_left old) (might_have_left new) (can_leave new)
+
 -- a call with so many bytes fails
 abbrev pub Refuses : DiskState → ℕ → Type 0
 Refuses s count = Contains s.failing (length s.calls) ⊎ (length s.calls ≡ s.most) ⊎ (s.room < bytes_written s.calls + count)
@@ -111,3 +117,8 @@ recorded s = record s { calls = if nat_lt (length s.calls) s.most then s.calls +
 -- after a call that failed
 abbrev pub refused : DiskState → DiskState
 refused s = record (recorded s) { faults = one_more s.faults }
+
+-- what a call makes of the disk, if it answers Ok or if it doesn't
+abbrev pub Gives : DiskState → DeviceCall → Bool → DiskState → Type 0
+Gives old call true new = (Refuses old (bytes_written (call ∷ [])) → ⊥) × (new ≡ done old call)
+Gives old call false new = Refuses old (bytes_written (call ∷ [])) × (new ≡ refused old)

@@ -1,9 +1,10 @@
 //! A disk with three areas, and what a crash may leave of it.
 
-ghost use Rattle.std.specs.Prelude.{◌≡◌, ◌+◌, ◌<◌, ◌≤◌, ℕ, length, take, drop, Option, Some, IsErr, IfOk, OnOk, OnErr, IfSome};
+ghost use Rattle.std.specs.Prelude.{◌≡◌, ◌+◌, ◌<◌, ◌≤◌, ⊤, ℕ, Bool, length, take, drop, Option, Some, is_ok, IsErr, IfOk, OnOk, OnErr, IfSome};
 ghost use Rattle.rls_io.specs.Device.{Rose, one_more};
 ghost use Rattle.rls_journal.specs.Areas.{Areas, area_of};
 ghost use Rattle.rls_journal.specs.Disk.{Tears, Renews, Writes, MayTear, Narrows, Follows, IsDurable, IsWritten, StaysDirty, StaysDirtyBut, Elapses};
+ghost use Rattle.rls_journal.specs.Memory.{DeviceCall, Looked, Wrote, Synced};
 
 use rls_io::Failed;
 
@@ -42,6 +43,9 @@ pub trait Disk {
     /// changes it.
     ghost faults: { Self → ℕ };
 
+    /// What this call makes of the disk, if it answers Ok or if it doesn't.
+    ghost gives: { Self → DeviceCall → Bool → Self → Type 0 } = { λ _ _ _ _. ⊤ };
+
     /// The count of bytes in an area, which is below 3. `Failed` comes only where the count of faults rose in this call.
     fn size(&mut self, area: u8) -> Result<u64, Failed>
         requires area { area < 3 }
@@ -50,6 +54,7 @@ pub trait Disk {
         ensures dirty { StaysDirty (is_dirty self.old) (is_dirty self.new) }
         ensures crash { Narrows (may_leave self.old) (may_leave self.new) }
         ensures time { Elapses (moment self.old) (moment self.new) (left_since self.old) (left_since self.new) (may_leave self.new) }
+        ensures gives { gives self.old Looked (is_ok result) self.new }
         ensures counted { IsErr result → faults self.new ≡ one_more (faults self.old) }
         ensures uncounted { OnOk result (faults self.new ≡ faults self.old) }
         ensures never_falls { faults self.old ≤ faults self.new }
@@ -65,6 +70,7 @@ pub trait Disk {
         ensures dirty { StaysDirty (is_dirty self.old) (is_dirty self.new) }
         ensures crash { Narrows (may_leave self.old) (may_leave self.new) }
         ensures time { Elapses (moment self.old) (moment self.new) (left_since self.old) (left_since self.new) (may_leave self.new) }
+        ensures gives { gives self.old Looked (is_ok result) self.new }
         ensures counted { IsErr result → faults self.new ≡ one_more (faults self.old) }
         ensures uncounted { OnOk result (faults self.new ≡ faults self.old) }
         ensures never_falls { faults self.old ≤ faults self.new }
@@ -82,6 +88,7 @@ pub trait Disk {
         ensures is_dirty { OnOk result (is_dirty self.new area at (length bytes.now)) }
         ensures crash { Follows (Tears area at (length bytes.now)) (may_leave self.old) (may_leave self.new) }
         ensures time { Elapses (moment self.old) (moment self.new) (left_since self.old) (left_since self.new) (may_leave self.new) }
+        ensures gives { gives self.old (Wrote area at bytes.now) (is_ok result) self.new }
         ensures counted { IsErr result → faults self.new ≡ one_more (faults self.old) }
         ensures uncounted { OnOk result (faults self.new ≡ faults self.old) }
         ensures never_falls { faults self.old ≤ faults self.new }
@@ -98,6 +105,7 @@ pub trait Disk {
         ensures crash { IfSome (seen self.old) (λ s. Follows (Renews s) (may_leave self.old) (may_leave self.new)) }
         ensures idle { retries → Narrows (may_leave self.old) (may_leave self.new) }
         ensures time { Elapses (moment self.old) (moment self.new) (left_since self.old) (left_since self.new) (may_leave self.new) }
+        ensures gives { gives self.old Looked (is_ok result) self.new }
         ensures counted { IsErr result → faults self.new ≡ one_more (faults self.old) }
         ensures uncounted { OnOk result (faults self.new ≡ faults self.old) }
         ensures never_falls { faults self.old ≤ faults self.new }
@@ -114,6 +122,7 @@ pub trait Disk {
         ensures same { seen self.new ≡ seen self.old }
         ensures crash { Narrows (may_leave self.old) (may_leave self.new) }
         ensures time { Elapses (moment self.old) (moment self.new) (left_since self.old) (left_since self.new) (may_leave self.new) }
+        ensures gives { gives self.old (Synced area) (is_ok result) self.new }
         ensures counted { IsErr result → faults self.new ≡ one_more (faults self.old) }
         ensures uncounted { OnOk result (faults self.new ≡ faults self.old) }
         ensures never_falls { faults self.old ≤ faults self.new }

@@ -1,10 +1,9 @@
 //! A disk in memory, which tells all that it holds, and what a crash would have left of it.
 
-ghost use Rattle.std.specs.Prelude.{◌≡◌, ◌+◌, ◌<◌, ◌≤◌, ◌↔◌, [], ◌∷◌, length, take, drop, Some, false, IsTrue, IsErr, IfOk, OnOk, OnErr};
+ghost use Rattle.std.specs.Prelude.{◌≡◌, ◌+◌, ◌<◌, ◌≤◌, ◌↔◌, [], length, take, Some, false, IsTrue, IsErr, IfOk, OnOk, OnErr};
 ghost use Rattle.rls_io.specs.Device.{Rose, one_more};
 ghost use Rattle.rls_journal.specs.Areas.{area_of};
-ghost use Rattle.rls_journal.specs.Disk.{Writes, MayTear, Tears, Renews, Narrows, Follows, IsDurable, IsWritten, Elapses};
-ghost use Rattle.rls_journal.specs.Memory.{Looked, Wrote, Synced, MayLeave, written_at, seen_step, image_step, image_after, filled_after, bytes_written, reading, can_leave, might_have_left, Refuses, done, recorded, refused};
+ghost use Rattle.rls_journal.specs.Memory.{Gives, IsQuiet, Looked, Wrote, Synced, MayLeave, written_at, seen_step, image_step, image_after, filled_after, bytes_written, reading, can_leave, might_have_left, Refuses, done, recorded, refused};
 ghost use Rattle.rls_journal.specs.Records.{WritesNothing, call_of, calls_of, bytes_in};
 ghost use Rattle.rls_journal.specs.MemoryLaws.{reads_left, now_counts, now_only};
 
@@ -156,6 +155,7 @@ impl MemoryDisk {
         ensures few { OnOk result (length self.old.calls < self.old.most) }
         ensures room { OnOk result (bytes_written self.old.calls + count ≤ self.old.room) }
         ensures refused { OnErr result (self.new ≡ refused self.old) }
+        ensures quiet { OnErr result (IsQuiet self.old self.new) }
         ensures never_falls { self.old.faults ≤ self.new.faults }
     {
         if self.refuses(count) {
@@ -184,9 +184,7 @@ impl MemoryDisk {
 
     // A call that changes nothing.
     fn quiet(&mut self) -> Result<(), Failed>
-        ensures same { reading self.new ≡ reading self.old }
-        ensures crash { Narrows (can_leave self.old) (can_leave self.new) }
-        ensures time { Elapses (length self.old.calls) (length self.new.calls) (might_have_left self.old) (might_have_left self.new) (can_leave self.new) }
+        ensures quiet { IsQuiet self.old self.new }
         ensures counted { IsErr result → self.new.faults ≡ one_more self.old.faults }
         ensures uncounted { OnOk result (self.new.faults ≡ self.old.faults) }
         ensures never_falls { self.old.faults ≤ self.new.faults }
@@ -309,49 +307,21 @@ impl Disk for MemoryDisk {
 
     ghost faults = { λ d. d.faults };
 
+    // A call fails exactly where it is to fail, where no record is left, or where its bytes pass what is left of the room.
+    ghost gives = { Gives };
+
     ghost reads_now = { λ d s is. reads_left d s is };
 
     ghost counts_now = { λ d t c le now. now_counts d t c le now };
 
     ghost only_now = { λ d c left. now_only d c left };
 
-    fn size(&mut self, area: u8) -> Result<u64, Failed>
-        requires area { area < 3 }
-        ensures size { IfOk result (λ n. n ≡ length (area_of (reading self.old) area)) }
-        ensures same { Some (reading self.new) ≡ Some (reading self.old) }
-        ensures crash { Narrows (can_leave self.old) (can_leave self.new) }
-        ensures time { Elapses (length self.old.calls) (length self.new.calls) (might_have_left self.old) (might_have_left self.new) (can_leave self.new) }
-        ensures counted { IsErr result → self.new.faults ≡ one_more self.old.faults }
-        ensures uncounted { OnOk result (self.new.faults ≡ self.old.faults) }
-        ensures never_falls { self.old.faults ≤ self.new.faults }
-        ensures cause { IsErr result → Rose self.old.faults self.new.faults }
-
-        // It fails exactly where it is to fail, or no record is left.
-        ensures exact { IsErr result ↔ Refuses self.old 0 }
-        ensures done { OnOk result (self.new ≡ done self.old Looked) }
-        ensures refused { OnErr result (self.new ≡ refused self.old) }
-    {
+    fn size(&mut self, area: u8) -> Result<u64, Failed> {
         self.quiet()?;
         Ok(self.area(area).len() as u64)
     }
 
-    fn read(&mut self, area: u8, at: u64, buf: &mut [u8]) -> Result<(), Failed>
-        requires area { area < 3 }
-        requires within { at + length buf.old ≤ length (area_of (reading self.old) area) }
-        ensures bytes { OnOk result (buf.new ≡ take (length buf.old) (drop at (area_of (reading self.old) area))) }
-        ensures same { Some (reading self.new) ≡ Some (reading self.old) }
-        ensures crash { Narrows (can_leave self.old) (can_leave self.new) }
-        ensures time { Elapses (length self.old.calls) (length self.new.calls) (might_have_left self.old) (might_have_left self.new) (can_leave self.new) }
-        ensures counted { IsErr result → self.new.faults ≡ one_more self.old.faults }
-        ensures uncounted { OnOk result (self.new.faults ≡ self.old.faults) }
-        ensures never_falls { self.old.faults ≤ self.new.faults }
-        ensures cause { IsErr result → Rose self.old.faults self.new.faults }
-
-        // It fails exactly where it is to fail, or no record is left.
-        ensures exact { IsErr result ↔ Refuses self.old 0 }
-        ensures done { OnOk result (self.new ≡ done self.old Looked) }
-        ensures refused { OnErr result (self.new ≡ refused self.old) }
-    {
+    fn read(&mut self, area: u8, at: u64, buf: &mut [u8]) -> Result<(), Failed> {
         self.quiet()?;
         let (_, rest) = self.area(area).split_at(at as usize);
         let (front, _) = rest.split_at(buf.len());
@@ -359,65 +329,18 @@ impl Disk for MemoryDisk {
         Ok(())
     }
 
-    fn write(&mut self, area: u8, at: u64, bytes: &[u8]) -> Result<(), Failed>
-        requires area { area < 3 }
-        requires within { at ≤ length (area_of (reading self.old) area) }
-        ensures written { OnOk result (Writes area at bytes.now (Some (reading self.old)) (Some (reading self.new))) }
-        ensures torn { OnErr result (MayTear area at (length bytes.now) (Some (reading self.old)) (Some (reading self.new))) }
-        ensures crash { Follows (Tears area at (length bytes.now)) (can_leave self.old) (can_leave self.new) }
-        ensures time { Elapses (length self.old.calls) (length self.new.calls) (might_have_left self.old) (might_have_left self.new) (can_leave self.new) }
-        ensures counted { IsErr result → self.new.faults ≡ one_more self.old.faults }
-        ensures uncounted { OnOk result (self.new.faults ≡ self.old.faults) }
-        ensures never_falls { self.old.faults ≤ self.new.faults }
-        ensures cause { IsErr result → Rose self.old.faults self.new.faults }
-
-        // It fails exactly where it is to fail, no record is left, or its bytes pass what is left of the room.
-        ensures exact { IsErr result ↔ Refuses self.old (length bytes.now) }
-        ensures done { OnOk result (self.new ≡ done self.old (Wrote area at bytes.now)) }
-        ensures refused { OnErr result (self.new ≡ refused self.old) }
-    {
+    fn write(&mut self, area: u8, at: u64, bytes: &[u8]) -> Result<(), Failed> {
         self.enter(bytes.len())?;
         self.put(area, at, bytes);
         Ok(())
     }
 
     // It does nothing.
-    fn renew_gate(&mut self) -> Result<(), Failed>
-        requires some { 0 < length (reading self.old).gate }
-        ensures same { Some (reading self.new) ≡ Some (reading self.old) }
-        ensures crash { Follows (Renews (reading self.old)) (can_leave self.old) (can_leave self.new) }
-        ensures idle { Unit {0} → Narrows (can_leave self.old) (can_leave self.new) }
-        ensures time { Elapses (length self.old.calls) (length self.new.calls) (might_have_left self.old) (might_have_left self.new) (can_leave self.new) }
-        ensures counted { IsErr result → self.new.faults ≡ one_more self.old.faults }
-        ensures uncounted { OnOk result (self.new.faults ≡ self.old.faults) }
-        ensures never_falls { self.old.faults ≤ self.new.faults }
-        ensures cause { IsErr result → Rose self.old.faults self.new.faults }
-
-        // It fails exactly where it is to fail, or no record is left.
-        ensures exact { IsErr result ↔ Refuses self.old 0 }
-        ensures done { OnOk result (self.new ≡ done self.old Looked) }
-        ensures refused { OnErr result (self.new ≡ refused self.old) }
-    {
+    fn renew_gate(&mut self) -> Result<(), Failed> {
         self.quiet()
     }
 
-    fn sync(&mut self, area: u8) -> Result<(), Failed>
-        requires area { area < 3 }
-        ensures durable { OnOk result (Unit {0} → IsDurable area (reading self.old) (can_leave self.new)) }
-        ensures written { OnOk result (IsWritten area (λ area at n. Unit {0}) (reading self.old) (can_leave self.new)) }
-        ensures same { Some (reading self.new) ≡ Some (reading self.old) }
-        ensures crash { Narrows (can_leave self.old) (can_leave self.new) }
-        ensures time { Elapses (length self.old.calls) (length self.new.calls) (might_have_left self.old) (might_have_left self.new) (can_leave self.new) }
-        ensures counted { IsErr result → self.new.faults ≡ one_more self.old.faults }
-        ensures uncounted { OnOk result (self.new.faults ≡ self.old.faults) }
-        ensures never_falls { self.old.faults ≤ self.new.faults }
-        ensures cause { IsErr result → Rose self.old.faults self.new.faults }
-
-        // It fails exactly where it is to fail, or no record is left.
-        ensures exact { IsErr result ↔ Refuses self.old 0 }
-        ensures done { OnOk result (self.new ≡ done self.old (Synced area)) }
-        ensures refused { OnErr result (self.new ≡ refused self.old) }
-    {
+    fn sync(&mut self, area: u8) -> Result<(), Failed> {
         self.enter(0)?;
         self.note(Entry::Synced { area });
         Ok(())

@@ -3,8 +3,8 @@
 ghost use Rattle.std.specs.Prelude.{◌≤◌, IfOk};
 
 use rls_io::{
-    FileKeeper, Found, Keeper, MemoryKeeper, MemorySink, MemorySource, ReadError, Source, StdSink,
-    StdSource, StoreError, read_all, write_all_of,
+    FileKeeper, Found, Keeper, MemoryKeeper, MemorySink, MemorySource, ReadError, Source,
+    StdDevice, StoreError, read_all, write_all_of,
 };
 use std::alloc::Global;
 use std::io::{ErrorKind, PipeReader, PipeWriter, Read, Write};
@@ -150,7 +150,7 @@ const GIVEN: &[Turn] = &[
 fn readers_halt(rt: HostRuntime) {
     let left: &'static [u8] = b"hello";
     let turns = GIVEN;
-    let mut source = StdSource::new(Giver { left, turns });
+    let mut source = StdDevice::new(Giver { left, turns });
     let alloc = rt.alloc();
     let broken = read(alloc, &mut source, 9, b"");
     let rest = read(alloc, &mut source, 9, b"lo");
@@ -162,7 +162,7 @@ const TAKEN: &[Turn] = &[Turn::Passes(2), INTERRUPTED, Turn::Passes(9), BROKEN];
 
 /// Whether the first of three writes is done, the second is broken, and the third finds no room.
 fn writes_once(taker: &mut Taker) -> bool {
-    let mut sink = StdSink::new(taker);
+    let mut sink = StdDevice::new(taker);
     let written = write_all_of(&mut sink, b"hello").is_ok();
     let broken = write_all_of(&mut sink, b"!").is_err();
     written && broken && write_all_of(&mut sink, b"!").is_err()
@@ -178,7 +178,7 @@ fn writers_halt(rt: HostRuntime) {
 }
 
 /// Whether two bytes are read that are written first; three more are written then.
-fn reads_while_written(source: &mut StdSource<PipeReader>, writer: &mut PipeWriter) -> bool {
+fn reads_while_written(source: &mut StdDevice<PipeReader>, writer: &mut PipeWriter) -> bool {
     let mut buffer = [0; 9];
     let begun = writer.write_all(b"he").is_ok();
     let read = matches!(source.read(&mut buffer), Ok(2));
@@ -188,7 +188,7 @@ fn reads_while_written(source: &mut StdSource<PipeReader>, writer: &mut PipeWrit
 
 /// Whether two bytes are read of a pipe, and three more after the writer is gone.
 fn pipes(alloc: Global, reader: PipeReader, writer: PipeWriter) -> Result<bool, ReadError> {
-    let (mut source, mut writer) = (StdSource::new(reader), writer);
+    let (mut source, mut writer) = (StdDevice::new(reader), writer);
     let first = reads_while_written(&mut source, &mut writer);
     drop(writer);
     Ok(first && read(alloc, &mut source, 3, b"llo")?)

@@ -2,17 +2,11 @@ use Rattle.std.proofs.Common.{◌∙◌, ap, Some}
 use Rattle.rls_journal.specs.Areas.{Areas}
 use Rattle.rls_journal.specs.Memory.{DiskState, Synced, can_leave, done, reading}
 use Rattle.rls_journal.proofs.Parts.{durable_written}
-use Rattle.rls_journal.proofs.States.{IsSynced, is_synced, quiet_refused}
+use Rattle.rls_journal.proofs.States.{IsSynced, is_synced}
 use Rattle.rls_journal.proofs.memory.MemoryDiskDisk.sync.Goals as goal
 
 synced : (c : goal.After-note) → IsSynced c.args.area c.args.self.now c.note.new.self
 synced c = is_synced c.args.self.now c.note.new.self c.args.area c.requires.area (c.note.ensures.done ∙ ap (λ (s : DiskState). done s (Synced c.args.area)) c.in_ok-enter.ensures.ok)
-
-pub returns-in_err-enter-clause-same : goal.returns-in_err-enter-clause-same
-returns-in_err-enter-clause-same c = ap (λ (a : Areas). Some a) (quiet_refused c.args.self.now c.enter.new.self c.in_err-enter.ensures.refused).same
-
-pub returns-in_err-enter-clause-crash : goal.returns-in_err-enter-clause-crash
-returns-in_err-enter-clause-crash c = (quiet_refused c.args.self.now c.enter.new.self c.in_err-enter.ensures.refused).narrows
 
 pub returns-clause-durable : goal.returns-clause-durable
 returns-clause-durable c = λ retries. (synced c).durable
@@ -25,9 +19,6 @@ returns-clause-same c = ap (λ (a : Areas). Some a) (synced c).same
 
 pub returns-clause-crash : goal.returns-clause-crash
 returns-clause-crash c = (synced c).narrows
-
-pub returns-in_err-enter-clause-time : goal.returns-in_err-enter-clause-time
-returns-in_err-enter-clause-time c = (quiet_refused c.args.self.now c.enter.new.self c.in_err-enter.ensures.refused).goes
 
 pub returns-clause-time : goal.returns-clause-time
 returns-clause-time c = (synced c).goes

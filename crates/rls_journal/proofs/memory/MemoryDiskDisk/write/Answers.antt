@@ -1,7 +1,7 @@
 use Rattle.std.proofs.Common.{◌∙◌, ap, length}
 use Rattle.rls_journal.specs.Memory.{DiskState, Wrote, done}
 use Rattle.rls_io.proofs.Told.{on_err_holds}
-use Rattle.rls_journal.proofs.States.{IsWritten, is_written, quiet_refused, torn_refused, crash_refused}
+use Rattle.rls_journal.proofs.States.{IsWritten, is_written, torn_refused, crash_refused}
 use Rattle.rls_journal.proofs.memory.MemoryDiskDisk.write.Goals as goal
 
 written : (c : goal.After-put) → IsWritten c.args.area c.args.at c.args.bytes.now c.args.self.now c.put.new.self
@@ -19,9 +19,6 @@ returns-clause-written c = (written c).written
 
 pub returns-clause-crash : goal.returns-clause-crash
 returns-clause-crash c = (written c).crash
-
-pub returns-in_err-enter-clause-time : goal.returns-in_err-enter-clause-time
-returns-in_err-enter-clause-time c = (quiet_refused c.args.self.now c.enter.new.self c.in_err-enter.ensures.refused).goes
 
 pub returns-clause-time : goal.returns-clause-time
 returns-clause-time c = (written c).goes

@@ -1,10 +1,10 @@
 use Rattle.std.proofs.Common.{◌≡◌}
 use Rattle.rls_io.specs.Device.{Keeps}
-use Rattle.rls_io.proofs.standard.StdSourceSource.read.Given as goal
+use Rattle.rls_io.proofs.standard.StdDeviceSink.write.Given as goal
 
 -- an interrupted call is no failure, and changes nothing that is told
 abbrev pub invariant-loop : goal.invariant-loop
 invariant-loop g l = record {
   uncounted : l.self.faults ≡ l.fn.self.faults;
-  kept : Keeps (g.R.Read.remaining l.fn.self.reader) (g.R.Read.remaining l.self.reader);
+  kept : Keeps (g.W.Write.contents l.fn.self.inner) (g.W.Write.contents l.self.inner);
 }
