@@ -17,7 +17,7 @@ use Rattle.rls_model.specs.declared.receipt.Taken.{Taken}
 use Rattle.rls_model.specs.Answers.{Reason}
 use Rattle.rls_model.specs.Document.{text}
 use Rattle.rls_model.specs.History.{group_of, members_of}
-use Rattle.rls_model.specs.Laws.{IsAt, IsFront}
+use Rattle.rls_model.specs.Laws.{IsAt, IsFront, AreEdits}
 use Rattle.rls_model.specs.Receiving.{State}
 use Rattle.rls_model.specs.Taking.{message_for, take_message}
 use Rattle.rls_model.specs.Worlds.{World}
@@ -38,7 +38,6 @@ use Rattle.rls_seen.proofs.Sending.{message_alike, message_fits}
 use Rattle.rls_store.proofs.HistoryMessages.{sent_is_message}
 use Rattle.rls_store.proofs.Storable.{released_still}
 use Rattle.rls_undo.specs.declared.entry.Entry.{Entry}
-use Rattle.rls_undo.specs.UndoLaws.{AreEdits}
 use Rattle.rls_undo.specs.Undoing.{last_of, performed, planned, refusal}
 use Rattle.rls_undo.proofs.Alike.{planned_alike}
 use Rattle.rls_undo.proofs.Histories.{plan_edits}

@@ -9,7 +9,7 @@ use Rattle.rls_model.specs.declared.edit.Edit.{Edit}
 use Rattle.rls_model.specs.declared.edit.EditError.{EditError}
 use Rattle.rls_model.specs.Editing.{edit_fault, made}
 use Rattle.rls_model.specs.History.{members_of}
-use Rattle.rls_model.specs.Laws.{IsAt, IsFront}
+use Rattle.rls_model.specs.Laws.{IsAt, IsFront, AreEdits}
 use Rattle.rls_model.specs.Receiving.{State, accept, after_release, release_all, released_times}
 use Rattle.rls_model.specs.Taking.{message_for, started, take_message}
 use Rattle.rls_model.specs.WellFormed.{IsEdit}
@@ -27,7 +27,6 @@ use Rattle.rls_model.proofs.WorldsArrived.{edit_stays}
 use Rattle.rls_file.specs.Storable.{IsStorable}
 use Rattle.rls_store.proofs.HistoryRuns.{taken_storable}
 use Rattle.rls_store.proofs.HistorySteps.{edited_storing, stored, storing}
-use Rattle.rls_undo.specs.UndoLaws.{AreEdits}
 use Rattle.rls_undo.specs.Undoing.{performed, unless}
 use Rattle.rls_groups.proofs.Staying.{Follows, follows_self, follows_trans}
 

@@ -13,6 +13,7 @@ use Rattle.rls_model.specs.Document.{idents}
 use Rattle.rls_model.specs.Epochs.{greatest, translate}
 use Rattle.rls_model.specs.Receiving.{State}
 use Rattle.rls_model.specs.WellFormed.{IsEdit}
+use Rattle.rls_model.specs.Laws.{AreEdits}
 use Rattle.rls_seen.specs.Seen.{Seen, idents_over}
 use Rattle.rls_seen.specs.Over.{placed_over}
 use Rattle.rls_seen.specs.Sane.{IsSane}
@@ -25,7 +26,7 @@ use Rattle.rls_undo.specs.declared.entry.Entry.{Entry}
 use Rattle.rls_undo.specs.declared.entry.Entry.TheVariants.{Inserted, Removed}
 use Rattle.rls_undo.specs.Plans.{places_from, put_place, ranges_of, deletion, epoch_in}
 use Rattle.rls_undo.specs.Undoing.{planned, planned_over, performed, performed_over, refusal, refusal_over}
-use Rattle.rls_undo.specs.UndoLaws.{UndoesIn, IsUndone, IsUndoneIn, IsEntry, AreEdits}
+use Rattle.rls_undo.specs.UndoLaws.{UndoesIn, IsUndone, IsUndoneIn, IsEntry}
 use Rattle.rls_undo.proofs.Alike.{planned_alike, performed_stands}
 use Rattle.rls_undo.proofs.Finding.{in_reverse, ranges_all}
 use Rattle.rls_undo.proofs.Performed.{undone}
