@@ -352,17 +352,6 @@ fn store_fails(alloc: Global, file: &[u8], row: &StoreFault<'_>) -> Result<bool,
     Ok(status == *due && is_kept && devices.wrote(output, fault_line(*due)))
 }
 
-/// Whether all rows go as they have to over the file after `hello`.
-fn all_stores_fail(alloc: Global) -> Result<(), Fail> {
-    let file = bytes(alloc, TYPED)?;
-    all_go(STORE_FAULTS, |row| store_fails(alloc, &file, row))
-}
-
-#[test]
-fn stores_fail(rt: HostRuntime) -> Result<(), Fail> {
-    all_stores_fail(rt.alloc())
-}
-
 /// The line on errors for the status of a device that failed.
 fn fault_line(status: u8) -> &'static [u8] {
     match status {
@@ -384,7 +373,8 @@ fn fails(alloc: Global, file: &[u8], row: &Fault<'_>) -> Result<bool, Fail> {
 /// Whether all rows go as they have to over the file after `hello`.
 fn all_fail(alloc: Global) -> Result<(), Fail> {
     let file = bytes(alloc, TYPED)?;
-    all_go(FAULTS, |row| fails(alloc, &file, row))
+    all_go(FAULTS, |row| fails(alloc, &file, row))?;
+    all_go(STORE_FAULTS, |row| store_fails(alloc, &file, row))
 }
 
 #[test]

@@ -2,16 +2,4 @@
 #![tactic(auto)]
 
 #[cfg(test)]
-mod changing;
-#[cfg(test)]
-mod courses;
-#[cfg(test)]
-mod following;
-#[cfg(test)]
-mod pairs;
-#[cfg(test)]
-mod stepping;
-#[cfg(test)]
-mod together;
-#[cfg(test)]
-mod undoing;
+mod tests;

@@ -198,6 +198,16 @@ fn is_listed(alloc: Global) -> Result<bool, Fail> {
     Ok(vector.counts() == [3, 0, 2].as_slice() && vector.len() == 3)
 }
 
+/// Whether a vector into which these counts are put one by one has them, and so have a copy and the vector of all of them.
+fn is_put(alloc: Global, counts: &[u32]) -> Result<bool, Fail> {
+    let mut vector = Vector::new(alloc);
+    for count in counts {
+        vector.push(*count)?;
+    }
+    let (copy, whole) = (vector.copy()?, Vector::from_counts(alloc, counts)?);
+    Ok(vector.counts() == counts && copy.counts() == counts && whole.counts() == counts)
+}
+
 /// Whether the counts aren't at most the others, and include the first epoch alone.
 fn is_behind(counts: &Vector, other: &Vector) -> bool {
     if counts.len() != 2 || counts.at_most(other) {
@@ -242,6 +252,7 @@ fn is_joined(alloc: Global) -> Result<bool, Fail> {
 #[test]
 fn vectors(rt: HostRuntime) -> Result<(), Fail> {
     assert!(rt; is_listed(rt.alloc())?);
+    assert!(rt; is_put(rt.alloc(), &[4, 3, 2, 1])? && is_put(rt.alloc(), &[6, 5, 4, 3, 2, 1])?);
     assert!(rt; is_joined(rt.alloc())?);
     Ok(())
 }

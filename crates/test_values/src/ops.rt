@@ -114,7 +114,7 @@ fn differ(alloc: Global, all: &[Told<'_>]) -> Result<bool, Fail> {
     let empty = ops.is_empty();
     push_all(alloc, &mut ops, all)?;
     let distinct = is_distinct(&ops, all.len());
-    Ok(empty && distinct && ops.into_vec().len() == all.len())
+    Ok(empty && distinct && ops.len() == all.len())
 }
 
 #[test]

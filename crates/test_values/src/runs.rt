@@ -170,8 +170,8 @@ fn is_listed(alloc: Global, characters: &str) -> Result<bool, AllocError> {
 
 /// Makes `hello` of `l`.
 fn lengthen(alloc: Global, text: &mut Text) -> Result<(), AllocError> {
-    text.append(Text::from_str(alloc, "lo")?)?;
-    text.prepend(Text::from_str(alloc, "he")?)
+    text.append(&Text::from_str(alloc, "lo")?)?;
+    text.prepend(&Text::from_str(alloc, "he")?)
 }
 
 /// Whether the two parts of the text have five characters together.

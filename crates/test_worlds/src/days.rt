@@ -13,7 +13,7 @@ use test_steps::worlds::{Happening, event_of, replica};
 fn page(alloc: Global) -> Result<Edit, AllocError> {
     let mut text = Text::new(alloc);
     for _ in 0..250 {
-        text.append(Text::from_str(alloc, "a line, ")?)?;
+        text.append(&Text::from_str(alloc, "a line, ")?)?;
     }
     Ok(Edit::Insert { at: 0, text })
 }

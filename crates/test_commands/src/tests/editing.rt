@@ -1,9 +1,11 @@
 //! Commands of one member, one after another.
 
 use super::scenes::Scene::{Does, Edits, Fails, Shows, Writes};
-use super::scenes::{Scene, Table, play};
+use super::scenes::{Scene, Table, fault_after, play};
 use crate::members::EDITED;
+use std::alloc::Global;
 use std::test::Fail;
+use test_steps::rows::{all_go_within, cut};
 
 /// A fresh member 0 of 2 in group 7 inserts `hello`.
 const BEGUN: &[Scene] = &[
@@ -14,9 +16,6 @@ const BEGUN: &[Scene] = &[
 /// A sole member.
 const SOLE: &[Scene] = &[Writes(0, "new 7 0 1", "new 7 0 1\n")];
 
-/// The report of two edits.
-const TWO: &str = "edits 2 released 0 refused 0\n";
-
 /// One run of `hello`.
 const ALONE: &[Scene] = &[Shows(
     0,
@@ -24,58 +23,55 @@ const ALONE: &[Scene] = &[Shows(
     "{\"epoch\":null,\"runs\":[{\"first\":[[2147483647,0,1,0]],\"length\":5}]}\n",
 )];
 
-/// An insertion after the last character.
-const APPENDED: &[Scene] = &[
-    Edits(0, b"i 5 !\n", EDITED),
-    Shows(
-        0,
-        "hello!",
-        "{\"epoch\":null,\"runs\":[{\"first\":[[2147483647,0,1,0]],\"length\":6}]}\n",
-    ),
+/// A script, its report, and the text and the listing then, with ` | ` between them.
+type Row = &'static str;
+
+/// What scripts make of `hello`.
+const SCRIPTS: &[&[Row]] = &[
+    // An insertion after the last character.
+    &[
+        "i 5 !\n | edits 1 released 0 refused 0\n | hello! | {\"epoch\":null,\"runs\":[{\"first\":[[2147483647,0,1,0]],\"length\":6}]}\n",
+    ],
+    // One within the text.
+    &[
+        "i 2 XY\n | edits 1 released 0 refused 0\n | heXYllo | {\"epoch\":null,\"runs\":[{\"first\":[[2147483647,0,1,0]],\"length\":2},{\"first\":[[2147483647,0,1,1],[2147483647,0,2,0]],\"length\":2},{\"first\":[[2147483647,0,1,2]],\"length\":3}]}\n",
+    ],
+    // One before the first character.
+    &[
+        "i 0 A\n | edits 1 released 0 refused 0\n | Ahello | {\"epoch\":null,\"runs\":[{\"first\":[[2147483647,0,1,-1]],\"length\":6}]}\n",
+    ],
+    // Insertions where the offsets beside the text were used before: after its last character, and before its first.
+    &[
+        "d 4 1\ni 4 X\n | edits 2 released 0 refused 0\n | hellX | {\"epoch\":null,\"runs\":[{\"first\":[[2147483647,0,1,0]],\"length\":4},{\"first\":[[3221225471,0,3,0]],\"length\":1}]}\n",
+    ],
+    &[
+        "i 0 A\nd 0 1\ni 0 B\n | edits 3 released 0 refused 0\n | Bhello | {\"epoch\":null,\"runs\":[{\"first\":[[1073741823,0,4,0]],\"length\":1},{\"first\":[[2147483647,0,1,0]],\"length\":5}]}\n",
+    ],
+    // A rename, and insertions at both ends after it.
+    &[
+        "i 2 XY\nr\n | edits 2 released 0 refused 0\n | heXYllo | {\"epoch\":[0,3],\"runs\":[{\"first\":[[2147483647,0,3,0]],\"length\":7}]}\n",
+        "i 7 !\n | edits 1 released 0 refused 0\n | heXYllo! | {\"epoch\":[0,3],\"runs\":[{\"first\":[[2147483647,0,3,0]],\"length\":8}]}\n",
+        "i 0 AB\n | edits 1 released 0 refused 0\n | ABheXYllo! | {\"epoch\":[0,3],\"runs\":[{\"first\":[[2147483647,0,3,-2]],\"length\":10}]}\n",
+    ],
 ];
 
-/// One within the text.
-const INSERTED: &[Scene] = &[
-    Edits(0, b"i 2 XY\n", EDITED),
-    Shows(
-        0,
-        "heXYllo",
-        "{\"epoch\":null,\"runs\":[{\"first\":[[2147483647,0,1,0]],\"length\":2},{\"first\":[[2147483647,0,1,1],[2147483647,0,2,0]],\"length\":2},{\"first\":[[2147483647,0,1,2]],\"length\":3}]}\n",
-    ),
-];
+/// Performs the scripts of the rows over a fresh `hello`, and answers the first scene that goes otherwise than it has to.
+fn fault(alloc: Global, rows: &[Row]) -> Result<Option<usize>, Fail> {
+    let mut scenes = Vec::new(alloc);
+    for row in rows {
+        let (script, rest) = cut(*row)?;
+        let (report, rest) = cut(rest)?;
+        let (text, ids) = cut(rest)?;
+        scenes.push(Edits(0, script.as_bytes(), report))?;
+        scenes.push(Shows(0, text, ids))?;
+    }
+    fault_after(alloc, BEGUN, &scenes)
+}
 
-/// One before the first character.
-const PREPENDED: &[Scene] = &[
-    Edits(0, b"i 0 A\n", EDITED),
-    Shows(
-        0,
-        "Ahello",
-        "{\"epoch\":null,\"runs\":[{\"first\":[[2147483647,0,1,-1]],\"length\":6}]}\n",
-    ),
-];
-
-/// Insertions where the offsets beside the text were used before: after its last character, and before its first.
-const APPENDED_AGAIN: &[Scene] = &[
-    Edits(0, b"d 4 1\ni 4 X\n", TWO),
-    Shows(
-        0,
-        "hellX",
-        "{\"epoch\":null,\"runs\":[{\"first\":[[2147483647,0,1,0]],\"length\":4},{\"first\":[[3221225471,0,3,0]],\"length\":1}]}\n",
-    ),
-];
-
-const PREPENDED_AGAIN: &[Scene] = &[
-    Edits(
-        0,
-        b"i 0 A\nd 0 1\ni 0 B\n",
-        "edits 3 released 0 refused 0\n",
-    ),
-    Shows(
-        0,
-        "Bhello",
-        "{\"epoch\":null,\"runs\":[{\"first\":[[1073741823,0,4,0]],\"length\":1},{\"first\":[[2147483647,0,1,0]],\"length\":5}]}\n",
-    ),
-];
+#[test]
+fn scripts_change_the_text(rt: HostRuntime) -> Result<(), Fail> {
+    all_go_within(SCRIPTS, |rows| fault(rt.alloc(), rows))
+}
 
 /// Deletions, and edits that a text of none refuses.
 const DELETIONS: &[Scene] = &[
@@ -89,28 +85,6 @@ const DELETIONS: &[Scene] = &[
     Shows(0, "", "{\"epoch\":null,\"runs\":[]}\n"),
     Fails(0, b"r\n", 6, "line 1: empty document\n"),
     Fails(0, b"d 9 0\n", 6, "line 1: empty edit\n"),
-];
-
-/// A rename, and insertions at both ends after it.
-const RENAMES: &[Scene] = &[
-    Edits(0, b"i 2 XY\nr\n", TWO),
-    Shows(
-        0,
-        "heXYllo",
-        "{\"epoch\":[0,3],\"runs\":[{\"first\":[[2147483647,0,3,0]],\"length\":7}]}\n",
-    ),
-    Edits(0, b"i 7 !\n", EDITED),
-    Shows(
-        0,
-        "heXYllo!",
-        "{\"epoch\":[0,3],\"runs\":[{\"first\":[[2147483647,0,3,0]],\"length\":8}]}\n",
-    ),
-    Edits(0, b"i 0 AB\n", EDITED),
-    Shows(
-        0,
-        "ABheXYllo!",
-        "{\"epoch\":[0,3],\"runs\":[{\"first\":[[2147483647,0,3,-2]],\"length\":10}]}\n",
-    ),
 ];
 
 /// Scripts that are refused leave the text as it is.
@@ -174,13 +148,7 @@ const NEW_REPLICAS: &[Scene] = &[
 
 const TABLES: &[Table] = &[
     (BEGUN, ALONE),
-    (BEGUN, APPENDED),
-    (BEGUN, INSERTED),
-    (BEGUN, PREPENDED),
-    (BEGUN, APPENDED_AGAIN),
-    (BEGUN, PREPENDED_AGAIN),
     (BEGUN, DELETIONS),
-    (BEGUN, RENAMES),
     (BEGUN, REFUSED_SCRIPTS),
     (BEGUN, LEAVES),
     (SOLE, FLAGS),

@@ -1,10 +1,12 @@
 //! Messages between members.
 
 use super::scenes::Scene::{Does, Edits, Repeats, Sends, Shows, Takes, Tells, Writes};
-use super::scenes::{APPLIED, REFUSED, Scene, TOOK_NONE, Table, play};
+use super::scenes::{APPLIED, REFUSED, Scene, TOOK_NONE, Table, fault_after, play};
 use crate::members::EDITED;
+use std::alloc::Global;
 use std::test::Fail;
 use test_steps::bytes::{EMPTY_MESSAGE, HELLO_MESSAGE};
+use test_steps::rows::{all_go, cut};
 
 /// Members 0 and 1 of 2 in group 7.
 const FRESH: &[Scene] = &[
@@ -77,44 +79,41 @@ const WAITING_AND_FORKED: &[Scene] = &[
     Writes(1, "text", "hello!"),
 ];
 
-/// Both members of a pair delete one character.
-const DELETED_TWICE: &[Scene] = &[
-    Edits(0, b"d 0 1\n", EDITED),
-    Edits(1, b"d 0 1\n", EDITED),
-    Tells(0, 1, APPLIED),
-    Tells(1, 0, APPLIED),
-    Shows(0, "ello", DELETED_ONCE_IDS),
-    Shows(1, "ello", DELETED_ONCE_IDS),
+/// What the members of a pair do at the same time: the script of member 0, that of member 1, the report of each, the report of each
+/// message then, and the text and the listing of both, with ` | ` between them.
+type Row = &'static str;
+
+const AT_ONCE: &[Row] = &[
+    // Both delete one character.
+    "d 0 1\n | d 0 1\n | edits 1 released 0 refused 0\n | applied 1 released 0 repeated 0 held 0 refused 0\n | ello | {\"epoch\":null,\"runs\":[{\"first\":[[2147483647,0,1,1]],\"length\":4}]}\n",
+    // An insertion beside a rename.
+    "r\n | i 2 x\n | edits 1 released 0 refused 0\n | applied 1 released 0 repeated 0 held 0 refused 0\n | hexllo | {\"epoch\":[0,2],\"runs\":[{\"first\":[[2147483647,0,2,0]],\"length\":2},{\"first\":[[2147483647,0,2,1],[2147483647,0,1,1],[2147483647,1,1,0]],\"length\":1},{\"first\":[[2147483647,0,2,2]],\"length\":3}]}\n",
+    // Two renames at once, each with an insertion after it.
+    "r\ni 2 A\n | r\ni 2 B\n | edits 2 released 0 refused 0\n | applied 2 released 0 repeated 0 held 0 refused 0\n | heABllo | {\"epoch\":[1,1],\"runs\":[{\"first\":[[2147483647,1,1,0]],\"length\":2},{\"first\":[[2147483647,1,1,1],[2147483647,0,3,0]],\"length\":1},{\"first\":[[2147483647,1,1,1],[2147483647,1,2,0]],\"length\":1},{\"first\":[[2147483647,1,1,2]],\"length\":3}]}\n",
 ];
 
-const DELETED_ONCE_IDS: &str =
-    "{\"epoch\":null,\"runs\":[{\"first\":[[2147483647,0,1,1]],\"length\":4}]}\n";
+/// Whether the row goes as it has to.
+fn goes(alloc: Global, row: Row) -> Result<bool, Fail> {
+    let (first, rest) = cut(row)?;
+    let (second, rest) = cut(rest)?;
+    let (edited, rest) = cut(rest)?;
+    let (applied, rest) = cut(rest)?;
+    let (text, ids) = cut(rest)?;
+    let scenes = [
+        Edits(0, first.as_bytes(), edited),
+        Edits(1, second.as_bytes(), edited),
+        Tells(0, 1, applied),
+        Tells(1, 0, applied),
+        Shows(0, text, ids),
+        Shows(1, text, ids),
+    ];
+    Ok(fault_after(alloc, PAIR, &scenes)?.is_none())
+}
 
-/// An insertion beside a rename.
-const INSERTED_AND_RENAMED: &[Scene] = &[
-    Edits(0, b"r\n", EDITED),
-    Edits(1, b"i 2 x\n", EDITED),
-    Tells(0, 1, APPLIED),
-    Tells(1, 0, APPLIED),
-    Shows(0, "hexllo", INSERTED_AND_RENAMED_IDS),
-    Shows(1, "hexllo", INSERTED_AND_RENAMED_IDS),
-];
-
-const INSERTED_AND_RENAMED_IDS: &str =
-    "{\"epoch\":[0,2],\"runs\":[{\"first\":[[2147483647,0,2,0]],\"length\":2},{\"first\":[[2147483647,0,2,1],[2147483647,0,1,1],[2147483647,1,1,0]],\"length\":1},{\"first\":[[2147483647,0,2,2]],\"length\":3}]}\n";
-
-/// Two renames at once, each with an insertion after it.
-const RENAMED_TWICE: &[Scene] = &[
-    Edits(0, b"r\ni 2 A\n", "edits 2 released 0 refused 0\n"),
-    Edits(1, b"r\ni 2 B\n", "edits 2 released 0 refused 0\n"),
-    Tells(0, 1, "applied 2 released 0 repeated 0 held 0 refused 0\n"),
-    Tells(1, 0, "applied 2 released 0 repeated 0 held 0 refused 0\n"),
-    Shows(0, "heABllo", RENAMED_TWICE_IDS),
-    Shows(1, "heABllo", RENAMED_TWICE_IDS),
-];
-
-const RENAMED_TWICE_IDS: &str =
-    "{\"epoch\":[1,1],\"runs\":[{\"first\":[[2147483647,1,1,0]],\"length\":2},{\"first\":[[2147483647,1,1,1],[2147483647,0,3,0]],\"length\":1},{\"first\":[[2147483647,1,1,1],[2147483647,1,2,0]],\"length\":1},{\"first\":[[2147483647,1,1,2]],\"length\":3}]}\n";
+#[test]
+fn members_edit_at_once(rt: HostRuntime) -> Result<(), Fail> {
+    all_go(AT_ONCE, |row| goes(rt.alloc(), *row))
+}
 
 /// Member 1 deletes a character that nobody inserted.
 const UNKNOWN_TARGET: &str =
@@ -242,9 +241,6 @@ const TABLES: &[Table] = &[
     (FRESH, IN_FORM_1),
     (FRESH, IN_FORM_2),
     (FRESH, WAITING_AND_FORKED),
-    (PAIR, DELETED_TWICE),
-    (PAIR, INSERTED_AND_RENAMED),
-    (PAIR, RENAMED_TWICE),
     (FRESH, REFUSALS),
     (PAIR, BACKWARD),
     (PAIR, LEFT),

@@ -155,26 +155,26 @@ fn fault_among(alloc: Global, group: &mut Group, scenes: &[Scene]) -> Result<Opt
     first_fault(scenes, |scene| goes(alloc, group, scene))
 }
 
-/// The same of the scenes after a beginning, which has to go as it says.
-fn fault_after(alloc: Global, group: &mut Group, table: &Table) -> Result<Option<usize>, Fail> {
-    let (beginning, scenes) = table;
-    if fault_among(alloc, group, beginning)?.is_some() {
-        return Err(Fail::new("beginning"));
-    }
-    fault_among(alloc, group, scenes)
-}
-
-/// The first scene of a table that goes otherwise than it has to.
-fn fault_in(alloc: Global, table: &Table) -> Result<Option<usize>, Fail> {
+/// The first scene that goes otherwise than it has to at fresh members after this beginning, which has to go as it says.
+pub fn fault_after(
+    alloc: Global,
+    beginning: &[Scene],
+    scenes: &[Scene],
+) -> Result<Option<usize>, Fail> {
     let mut group = Group {
         first: Member::new(),
         second: Member::new(),
         third: Member::new(),
     };
-    fault_after(alloc, &mut group, table)
+    match fault_among(alloc, &mut group, beginning)? {
+        Some(_) => Err(Fail::new("beginning")),
+        None => fault_among(alloc, &mut group, scenes),
+    }
 }
 
 /// Plays the tables, and fails if a scene goes otherwise than it has to.
 pub fn play(alloc: Global, tables: &[Table]) -> Result<(), Fail> {
-    all_go_within(tables, |table| fault_in(alloc, table))
+    all_go_within(tables, |(beginning, scenes)| {
+        fault_after(alloc, beginning, scenes)
+    })
 }

@@ -1,7 +1,7 @@
 //! Undo by steps at three members who edit and rename at the same time.
 
-use crate::pairs::{give, pass, shows};
-use crate::stepping::{close, count, edit, redo, undo};
+use super::pairs::{give, pass, shows};
+use super::stepping::step;
 use rls_replica::Replica;
 use rls_steps::Steps;
 use std::alloc::Global;
@@ -40,16 +40,8 @@ fn member_at(members: &mut [Member], number: usize) -> Result<&mut Member, Fail>
 fn does(alloc: Global, member: &mut Member, words: &'static str) -> Result<String, Fail> {
     let (verb, rest) = word(words);
     match verb {
-        "edit" => {
-            let change = change_of(rest)?;
-            Ok(edit(alloc, &mut member.steps, &mut member.replica, change)?)
-        }
         "pass" => Ok(pass(alloc, &mut member.replica, change_of(rest)?)?),
-        "undo" => Ok(undo(alloc, &mut member.steps, &mut member.replica)?),
-        "redo" => Ok(redo(alloc, &mut member.steps, &mut member.replica)?),
-        "close" => Ok(close(alloc, &mut member.steps)?),
-        "count" => Ok(count(alloc, &member.steps)?),
-        _ => Err(Fail::new(words)),
+        _ => step(alloc, &mut member.steps, &mut member.replica, words),
     }
 }
 

@@ -1,6 +1,6 @@
 //! What changes in the text: two members who take each other's messages, of whom the first has entries of undo and steps besides.
 
-use crate::pairs::shows;
+use super::pairs::{Members, shows};
 use rls_changes::{Change, push_own, take, take_bytes, undo};
 use rls_ops::{Message, Ops};
 use rls_replica::Replica;
@@ -13,70 +13,13 @@ use std::test::Fail;
 use test_steps::rows::{all_go_within, change_of, cut, first_fault, word};
 use test_steps::steps::{edit_of, letter};
 
-/// What is done.
-#[derive(Clone, Copy)]
-enum Move {
-    /// The first member edits.
-    First(test_steps::steps::Change),
-    /// The first member edits, and keeps an entry.
-    Entry(test_steps::steps::Change),
-    /// The first member edits, in steps.
-    Step(test_steps::steps::Change),
-    /// The second member edits.
-    Second(test_steps::steps::Change),
-    /// The second takes the message of the first, as bytes.
-    Give,
-    /// The second takes the message of the first without its first operation.
-    Hold,
-    /// The second takes no bytes at all.
-    Nothing,
-    /// The first takes the message of the second.
-    Take,
-    /// The first ends the open group of steps.
-    Close,
-    /// The first undoes its last entry.
-    Undo,
-    /// The first takes its last group back.
-    Back,
-    /// The first does it again.
-    Again,
-}
-
 /// A move, what it changes as lines with `; ` after each and its error, and the text of who did it, with ` | ` between them.
 type Row = &'static str;
 
-/// The move: `first`, `entry`, `step` or `second` with an edit after it, or the words for the others.
-fn move_of(words: &'static str) -> Result<Move, Fail> {
-    let (verb, rest) = word(words);
-    match verb {
-        "first" => Ok(Move::First(change_of(rest)?)),
-        "entry" => Ok(Move::Entry(change_of(rest)?)),
-        "step" => Ok(Move::Step(change_of(rest)?)),
-        "second" => Ok(Move::Second(change_of(rest)?)),
-        _ => plain_move(words).ok_or_else(|| Fail::new(words)),
-    }
-}
-
-/// The move that has just a name.
-fn plain_move(words: &str) -> Option<Move> {
-    Some(match words {
-        "give" => Move::Give,
-        "hold" => Move::Hold,
-        "nothing" => Move::Nothing,
-        "take" => Move::Take,
-        "close" => Move::Close,
-        "undo" => Move::Undo,
-        "back" => Move::Back,
-        "again" => Move::Again,
-        _ => return None,
-    })
-}
-
 /// The two members, and what the first one keeps.
 #[derive(Drop)]
-struct Pair {
-    first: Replica,
-    second: Replica,
+struct Changers {
+    members: Members,
     entries: Undo,
     steps: Steps,
 }
@@ -158,11 +101,10 @@ fn late(alloc: Global, from: &Replica, to: &Replica) -> Result<Message, Fail> {
 
 /// All but the first of them.
 fn later(alloc: Global, ops: Ops) -> Result<Ops, AllocError> {
-    let mut rest = ops.into_vec();
-    rest.reverse();
-    rest.pop();
+    let mut rest = ops.into_remaining();
+    rest.pop_first();
     let mut later = Ops::new(alloc);
-    while let Some(op) = rest.pop() {
+    while let Some(op) = rest.pop_first() {
         later.push(op)?;
     }
     Ok(later)
@@ -206,100 +148,105 @@ fn steps(
     Ok(lines_of(alloc, &changes)?)
 }
 
-/// What an undo changes, or why nothing or not all is undone.
-fn undoes(alloc: Global, entries: &mut Undo, replica: &mut Replica) -> Result<String, AllocError> {
-    let mut changes = Vec::new(alloc);
-    let answer = undo(entries, replica, &mut changes);
-    lines_and(alloc, &changes, answer)
-}
-
-/// The same of a group of steps.
-fn goes_back(
-    alloc: Global,
-    steps: &mut Steps,
-    replica: &mut Replica,
-) -> Result<String, AllocError> {
-    let mut changes = Vec::new(alloc);
-    let answer = steps.undo(replica, &mut changes);
-    lines_and(alloc, &changes, answer)
-}
-
-/// And of one that is done again.
-fn goes_again(
-    alloc: Global,
-    steps: &mut Steps,
-    replica: &mut Replica,
-) -> Result<String, AllocError> {
-    let mut changes = Vec::new(alloc);
-    let answer = steps.redo(replica, &mut changes);
-    lines_and(alloc, &changes, answer)
-}
-
-/// An edit of a member.
-fn edited(alloc: Global, pair: &mut Pair, what: &Move) -> Result<String, Fail> {
-    match what {
-        Move::First(change) => edits(alloc, &mut pair.first, *change),
-        Move::Entry(change) => enters(alloc, &mut pair.entries, &mut pair.first, *change),
-        Move::Step(change) => steps(alloc, &mut pair.steps, &mut pair.first, *change),
-        Move::Second(change) => edits(alloc, &mut pair.second, *change),
-        _ => taken(alloc, pair, what),
+/// An edit of a member: `first`, `entry` or `step` with an edit of the first one after it, of which nothing, an entry or steps are kept,
+/// or `second` with one of the second.
+fn edited(alloc: Global, pair: &mut Changers, words: &'static str) -> Result<String, Fail> {
+    let (verb, rest) = word(words);
+    let members = &mut pair.members;
+    match verb {
+        "first" => edits(alloc, &mut members.first, change_of(rest)?),
+        "entry" => enters(
+            alloc,
+            &mut pair.entries,
+            &mut members.first,
+            change_of(rest)?,
+        ),
+        "step" => steps(alloc, &mut pair.steps, &mut members.first, change_of(rest)?),
+        "second" => edits(alloc, &mut members.second, change_of(rest)?),
+        _ => taken(alloc, pair, words),
     }
 }
 
-/// A message that is taken.
-fn taken(alloc: Global, pair: &mut Pair, what: &Move) -> Result<String, Fail> {
-    match what {
-        Move::Give => gives(alloc, &pair.first, &mut pair.second),
-        Move::Hold => {
-            let message = late(alloc, &pair.first, &pair.second)?;
-            takes(alloc, &mut pair.second, message)
+/// A message that is taken: `give`, that of the first, as bytes; `hold`, the same without its first operation; `nothing`, no bytes at
+/// all; or `take`, by which the first takes that of the second.
+fn taken(alloc: Global, pair: &mut Changers, words: &'static str) -> Result<String, Fail> {
+    let Members { first, second } = &mut pair.members;
+    match words {
+        "give" => gives(alloc, first, second),
+        "hold" => {
+            let message = late(alloc, first, second)?;
+            takes(alloc, second, message)
         }
-        Move::Nothing => Ok(takes_bytes(alloc, &mut pair.second, &[])?),
-        Move::Take => {
-            let message = letter(&pair.second, &pair.first)?;
-            takes(alloc, &mut pair.first, message)
+        "nothing" => Ok(takes_bytes(alloc, second, &[])?),
+        "take" => {
+            let message = letter(second, first)?;
+            takes(alloc, first, message)
         }
-        _ => Ok(returned(alloc, pair, what)?),
+        _ => returned(alloc, pair, words),
     }
 }
 
-/// What the first takes back.
-fn returned(alloc: Global, pair: &mut Pair, what: &Move) -> Result<String, AllocError> {
-    match what {
-        Move::Undo => undoes(alloc, &mut pair.entries, &mut pair.first),
-        Move::Back => goes_back(alloc, &mut pair.steps, &mut pair.first),
-        Move::Again => goes_again(alloc, &mut pair.steps, &mut pair.first),
-        _ => {
+/// What the first takes back, or why it takes nothing or not all back: `undo`, its last entry, `back`, its last group of steps, or
+/// `again`, by which it does that again; and `close`, by which it ends the open group.
+fn returned(alloc: Global, pair: &mut Changers, words: &'static str) -> Result<String, Fail> {
+    let first = &mut pair.members.first;
+    let mut changes = Vec::new(alloc);
+    match words {
+        "undo" => {
+            let answer = undo(&mut pair.entries, first, &mut changes);
+            Ok(lines_and(alloc, &changes, answer)?)
+        }
+        "back" => {
+            let answer = pair.steps.undo(first, &mut changes);
+            Ok(lines_and(alloc, &changes, answer)?)
+        }
+        "again" => {
+            let answer = pair.steps.redo(first, &mut changes);
+            Ok(lines_and(alloc, &changes, answer)?)
+        }
+        "close" => {
             pair.steps.close();
             Ok(String::new(alloc))
         }
+        _ => Err(Fail::new(words)),
+    }
+}
+
+/// Who does this.
+fn does<'a>(members: &'a Members, verb: &str) -> &'a Replica {
+    match verb {
+        "second" => &members.second,
+        "give" => &members.second,
+        "hold" => &members.second,
+        "nothing" => &members.second,
+        _ => &members.first,
     }
 }
 
 /// Whether the move changes this.
-fn changes(alloc: Global, pair: &mut Pair, what: &Move, expected: &str) -> Result<bool, Fail> {
-    Ok(edited(alloc, pair, what)?.as_str() == expected)
+fn changes(
+    alloc: Global,
+    pair: &mut Changers,
+    words: &'static str,
+    expected: &str,
+) -> Result<bool, Fail> {
+    Ok(edited(alloc, pair, words)?.as_str() == expected)
 }
 
 /// Whether the move goes as it has to.
-fn goes(alloc: Global, pair: &mut Pair, row: Row) -> Result<bool, Fail> {
+fn goes(alloc: Global, pair: &mut Changers, row: Row) -> Result<bool, Fail> {
     let (words, rest) = cut(row)?;
     let (expected, text) = cut(rest)?;
-    let what = move_of(words)?;
-    if !changes(alloc, pair, &what, expected)? {
+    if !changes(alloc, pair, words, expected)? {
         return Ok(false);
     }
-    match what {
-        Move::Second(_) | Move::Give | Move::Hold | Move::Nothing => shows(&pair.second, text),
-        _ => shows(&pair.first, text),
-    }
+    shows(does(&pair.members, word(words).0), text)
 }
 
 /// Leads two fresh members through the rows, and answers the first that goes otherwise than it has to.
 fn fault(alloc: Global, rows: &[Row]) -> Result<Option<usize>, Fail> {
-    let mut pair = Pair {
-        first: Replica::new(alloc, 7, 0, 2)?,
-        second: Replica::new(alloc, 7, 1, 2)?,
+    let mut pair = Changers {
+        members: Members::fresh(alloc, 2)?,
         entries: Undo::new(alloc),
         steps: Steps::new(alloc),
     };

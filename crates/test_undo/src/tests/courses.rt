@@ -84,25 +84,30 @@ impl Copies {
 
     /// Whether there was a group.
     fn undo(&mut self) -> Result<bool, AllocError> {
-        let Some(text) = self.before.pop() else {
-            return Ok(false);
-        };
-        let old = std::mem::replace(&mut self.now, text);
-        self.after.push(old)?;
-        self.open = false;
-        Ok(true)
+        let is_turned = turn(&mut self.now, &mut self.before, &mut self.after)?;
+        self.open = self.open && !is_turned;
+        Ok(is_turned)
     }
 
     /// The same the other way.
     fn redo(&mut self) -> Result<bool, AllocError> {
-        let Some(text) = self.after.pop() else {
-            return Ok(false);
-        };
-        let old = std::mem::replace(&mut self.now, text);
-        self.before.push(old)?;
-        self.open = false;
-        Ok(true)
+        let is_turned = turn(&mut self.now, &mut self.after, &mut self.before)?;
+        self.open = self.open && !is_turned;
+        Ok(is_turned)
     }
+}
+
+/// The last text of the one list is the text now, and the text now the last of the other, if the one has any.
+fn turn(
+    now: &mut Vec<u8>,
+    from: &mut Vec<Vec<u8>>,
+    to: &mut Vec<Vec<u8>>,
+) -> Result<bool, AllocError> {
+    let Some(text) = from.pop() else {
+        return Ok(false);
+    };
+    to.push(std::mem::replace(now, text))?;
+    Ok(true)
 }
 
 /// A member and its steps, a member that only renames, and the editor.

@@ -1,58 +1,89 @@
 //! Undo by steps: two members, of whom the first keeps steps.
 
-use crate::pairs::{Pair, Row, drop_stable, fault_among, give, pass};
-use rls_replica::{PastError, Replica};
+use super::pairs::{Members, Pair, Row, fault, text_of_settled};
+use rls_replica::Replica;
 use rls_steps::{StepError, Steps};
 use std::alloc::{AllocError, Global};
 use std::test::Fail;
 use test_steps::rows::{all_go_within, change_of, number, word};
 use test_steps::steps::{Change, edit_of};
 
-/// What is done.
-#[derive(Clone, Copy)]
-enum Move {
-    /// The first member edits, in steps.
-    Edit(Change),
-    /// The first member edits without steps.
-    Pass(Change),
-    /// The second member edits.
-    Other(Change),
-    /// The second takes the message of the first.
-    Give,
-    /// The first takes the message of the second.
-    Take,
-    /// The first drops what is stable.
-    Drop,
-    Close,
-    Undo,
-    Redo,
-    /// How many groups can be undone and redone.
-    Count,
-    /// How many names are kept.
-    Named,
-    /// Only so many steps of so many characters are left.
-    Forget(usize, u64),
-    /// The same once there are many names, of which those go that aren't needed.
-    Keep(usize, u64),
-    Settle,
+/// The two members, and the steps of the first one.
+#[derive(Drop)]
+struct Steppers {
+    members: Members,
+    steps: Steps,
 }
 
-/// The move: `edit`, `pass` or `other` with an edit after it, `forget 2 100`, `keep 2 100`, or the words for the others.
-fn move_of(words: &'static str) -> Result<Move, Fail> {
+fn text_of_steps(alloc: Global, answer: Result<usize, StepError>) -> Result<String, AllocError> {
+    match answer {
+        Ok(steps) => format!(in alloc; "{steps}"),
+        Err(error) => format!(in alloc; "{error:?}"),
+    }
+}
+
+/// An edit in steps.
+fn edit(
+    alloc: Global,
+    steps: &mut Steps,
+    replica: &mut Replica,
+    change: Change,
+) -> Result<String, AllocError> {
+    let edit = edit_of(alloc, change)?;
+    match steps.edit(replica, &edit) {
+        Ok(seq) => format!(in alloc; "{seq}"),
+        Err(error) => format!(in alloc; "{error:?}"),
+    }
+}
+
+/// What a member does with its steps: `edit` with an edit after it, `undo` and `redo`, and what changes no text.
+pub(crate) fn step(
+    alloc: Global,
+    steps: &mut Steps,
+    replica: &mut Replica,
+    words: &'static str,
+) -> Result<String, Fail> {
+    let (verb, rest) = word(words);
+    let mut changes = Vec::new(alloc);
+    match verb {
+        "edit" => Ok(edit(alloc, steps, replica, change_of(rest)?)?),
+        "undo" => Ok(text_of_steps(alloc, steps.undo(replica, &mut changes))?),
+        "redo" => Ok(text_of_steps(alloc, steps.redo(replica, &mut changes))?),
+        _ => look(alloc, steps, replica, words),
+    }
+}
+
+/// What changes no text: `close`; `count`, how many groups can be undone and redone; `named`, how many names are kept;
+/// `forget 2 100`, by which only so many steps of so many characters are left; `keep 2 100`, the same once there are many names, of
+/// which those go that aren't needed; and `settle`.
+fn look(
+    alloc: Global,
+    steps: &mut Steps,
+    replica: &Replica,
+    words: &'static str,
+) -> Result<String, Fail> {
     let (verb, rest) = word(words);
     match verb {
-        "edit" => Ok(Move::Edit(change_of(rest)?)),
-        "pass" => Ok(Move::Pass(change_of(rest)?)),
-        "other" => Ok(Move::Other(change_of(rest)?)),
+        "close" => {
+            steps.close();
+            Ok(String::from_str(alloc, "closed")?)
+        }
+        "count" => {
+            let (undoable, redoable) = (steps.undoable(), steps.redoable());
+            Ok(format!(in alloc; "{undoable} {redoable}")?)
+        }
+        "named" => Ok(format!(in alloc; "{}", steps.named())?),
         "forget" => {
-            let (steps, chars) = bounds_of(rest)?;
-            Ok(Move::Forget(steps, chars))
+            let (most, chars) = bounds_of(rest)?;
+            steps.forget(most, chars);
+            Ok(String::from_str(alloc, "forgotten")?)
         }
         "keep" => {
-            let (steps, chars) = bounds_of(rest)?;
-            Ok(Move::Keep(steps, chars))
+            let (most, chars) = bounds_of(rest)?;
+            Ok(text_of_settled(alloc, steps.keep_within(replica, most, chars))?)
         }
-        _ => plain_move(words).ok_or_else(|| Fail::new(words)),
+        "settle" => Ok(text_of_settled(alloc, steps.settle(replica))?),
+        _ => Err(Fail::new(words)),
     }
 }
 
@@ -63,153 +94,24 @@ fn bounds_of(words: &'static str) -> Result<(usize, u64), Fail> {
     Ok((steps, chars))
 }
 
-/// The move that has just a name.
-fn plain_move(words: &str) -> Option<Move> {
-    Some(match words {
-        "give" => Move::Give,
-        "take" => Move::Take,
-        "drop" => Move::Drop,
-        "close" => Move::Close,
-        "undo" => Move::Undo,
-        "redo" => Move::Redo,
-        "count" => Move::Count,
-        "named" => Move::Named,
-        "settle" => Move::Settle,
-        _ => return None,
-    })
-}
-
-/// The two members, and the steps of the first one.
-#[derive(Drop)]
-struct Steppers {
-    first: Replica,
-    second: Replica,
-    steps: Steps,
-}
-
-pub(crate) fn text_of_steps(
-    alloc: Global,
-    answer: Result<usize, StepError>,
-) -> Result<String, AllocError> {
-    match answer {
-        Ok(steps) => format!(in alloc; "{steps}"),
-        Err(error) => format!(in alloc; "{error:?}"),
-    }
-}
-
-fn text_of_edit(alloc: Global, answer: Result<u32, StepError>) -> Result<String, AllocError> {
-    match answer {
-        Ok(seq) => format!(in alloc; "{seq}"),
-        Err(error) => format!(in alloc; "{error:?}"),
-    }
-}
-
-fn text_of_settled(alloc: Global, answer: Result<(), PastError>) -> Result<String, AllocError> {
-    format!(in alloc; "{answer:?}")
-}
-
-/// An edit in steps.
-pub(crate) fn edit(
-    alloc: Global,
-    steps: &mut Steps,
-    replica: &mut Replica,
-    change: Change,
-) -> Result<String, AllocError> {
-    let edit = edit_of(alloc, change)?;
-    text_of_edit(alloc, steps.edit(replica, &edit))
-}
-
-pub(crate) fn undo(
-    alloc: Global,
-    steps: &mut Steps,
-    replica: &mut Replica,
-) -> Result<String, AllocError> {
-    let mut changes = Vec::new(alloc);
-    text_of_steps(alloc, steps.undo(replica, &mut changes))
-}
-
-pub(crate) fn redo(
-    alloc: Global,
-    steps: &mut Steps,
-    replica: &mut Replica,
-) -> Result<String, AllocError> {
-    let mut changes = Vec::new(alloc);
-    text_of_steps(alloc, steps.redo(replica, &mut changes))
-}
-
-pub(crate) fn close(alloc: Global, steps: &mut Steps) -> Result<String, AllocError> {
-    steps.close();
-    String::from_str(alloc, "closed")
-}
-
-pub(crate) fn count(alloc: Global, steps: &Steps) -> Result<String, AllocError> {
-    let (undoable, redoable) = (steps.undoable(), steps.redoable());
-    format!(in alloc; "{undoable} {redoable}")
-}
-
-fn named(alloc: Global, steps: &Steps) -> Result<String, AllocError> {
-    format!(in alloc; "{}", steps.named())
-}
-
-fn forget(alloc: Global, steps: &mut Steps, most: usize, chars: u64) -> Result<String, AllocError> {
-    steps.forget(most, chars);
-    String::from_str(alloc, "forgotten")
-}
-
-/// Does what changes the text of a member.
-fn change(alloc: Global, pair: &mut Steppers, what: &Move) -> Result<String, Fail> {
-    match what {
-        Move::Edit(change) => Ok(edit(alloc, &mut pair.steps, &mut pair.first, *change)?),
-        Move::Pass(change) => Ok(pass(alloc, &mut pair.first, *change)?),
-        Move::Other(change) => Ok(pass(alloc, &mut pair.second, *change)?),
-        Move::Give => give(alloc, &pair.first, &mut pair.second),
-        Move::Take => give(alloc, &pair.second, &mut pair.first),
-        Move::Undo => Ok(undo(alloc, &mut pair.steps, &mut pair.first)?),
-        Move::Redo => Ok(redo(alloc, &mut pair.steps, &mut pair.first)?),
-        _ => Ok(look(alloc, pair, what)?),
-    }
-}
-
-/// Does what doesn't.
-fn look(alloc: Global, pair: &mut Steppers, what: &Move) -> Result<String, AllocError> {
-    match what {
-        Move::Drop => drop_stable(alloc, &mut pair.first),
-        Move::Close => close(alloc, &mut pair.steps),
-        Move::Settle => text_of_settled(alloc, pair.steps.settle(&pair.first)),
-        Move::Keep(most, chars) => text_of_settled(
-            alloc,
-            pair.steps.keep_within(&pair.first, *most, *chars),
-        ),
-        Move::Forget(most, chars) => forget(alloc, &mut pair.steps, *most, *chars),
-        Move::Named => named(alloc, &pair.steps),
-        _ => count(alloc, &pair.steps),
-    }
-}
-
 impl Pair for Steppers {
+    fn fresh(alloc: Global, members: u32) -> Result<Steppers, Fail> {
+        Ok(Steppers {
+            members: Members::fresh(alloc, members)?,
+            steps: Steps::new(alloc),
+        })
+    }
+
     fn play(&mut self, alloc: Global, words: &'static str) -> Result<String, Fail> {
-        change(alloc, self, &move_of(words)?)
+        match self.members.play(alloc, words)? {
+            Some(answer) => Ok(answer),
+            None => step(alloc, &mut self.steps, &mut self.members.first, words),
+        }
     }
 
     fn first(&self) -> &Replica {
-        &self.first
+        &self.members.first
     }
-}
-
-/// Two fresh members of group 7, of which the first knows of this many.
-fn pair_of(alloc: Global, members: u32) -> Result<Steppers, Fail> {
-    Ok(Steppers {
-        first: Replica::new(alloc, 7, 0, members)?,
-        second: Replica::new(alloc, 7, 1, 2)?,
-        steps: Steps::new(alloc),
-    })
-}
-
-/// Leads two fresh members, the first of a group of this many, through the rows, and answers the first that goes otherwise than it
-/// has to.
-fn fault(alloc: Global, members: u32, rows: &[Row]) -> Result<Option<usize>, Fail> {
-    let mut pair = pair_of(alloc, members)?;
-    fault_among(alloc, &mut pair, rows)
 }
 
 /// All the way back and forth: two backspaces, three deletions forward, typing with a backspace, and what `hello`, `d 0 3` leaves.
@@ -444,5 +346,7 @@ const TABLES: &[(u32, &[Row])] = &[
 
 #[test]
 fn steps_are_answered(rt: HostRuntime) -> Result<(), Fail> {
-    all_go_within(TABLES, |(members, rows)| fault(rt.alloc(), *members, rows))
+    all_go_within(TABLES, |(members, rows)| {
+        fault::<Steppers>(rt.alloc(), *members, rows)
+    })
 }

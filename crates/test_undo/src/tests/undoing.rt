@@ -1,6 +1,6 @@
 //! Undo and cursors: two members, of whom the first has entries and an anchor.
 
-use crate::pairs::{Pair, Row, drop_stable, fault_among, give, pass};
+use super::pairs::{Members, Pair, Row, fault, text_of_settled};
 use rls_anchor::{Anchor, AnchorError};
 use rls_replica::{PastError, Replica};
 use rls_undo::{Undo, UndoError, Undone};
@@ -10,69 +10,10 @@ use test_steps::answers::edited;
 use test_steps::rows::{all_go_within, change_of, number, word};
 use test_steps::steps::{Change, edit_of};
 
-/// What is done.
-#[derive(Clone, Copy)]
-enum Move {
-    /// The first member edits, and keeps an entry.
-    Edit(Change),
-    /// The first member edits without one.
-    Pass(Change),
-    /// The second member edits.
-    Other(Change),
-    /// The second takes the message of the first.
-    Give,
-    /// The first takes the message of the second.
-    Take,
-    /// The first drops what is stable.
-    Drop,
-    Undo,
-    Skip,
-    SettleEntries,
-    /// The first sets its anchor, after the character before it.
-    Set(u64),
-    /// And before the character after it.
-    SetBefore(u64),
-    /// The place of the anchor.
-    Place,
-    /// The epoch of the anchor, the length of its identifier and the last of its tuples.
-    Show,
-    SettleAnchor,
-}
-
-/// The move: `edit`, `pass` or `other` with an edit after it, `set 3` or `before 3`, or the words for the others.
-fn move_of(words: &'static str) -> Result<Move, Fail> {
-    let (verb, rest) = word(words);
-    match verb {
-        "edit" => Ok(Move::Edit(change_of(rest)?)),
-        "pass" => Ok(Move::Pass(change_of(rest)?)),
-        "other" => Ok(Move::Other(change_of(rest)?)),
-        "set" => Ok(Move::Set(number(rest)?.0)),
-        "before" => Ok(Move::SetBefore(number(rest)?.0)),
-        _ => plain_move(words).ok_or_else(|| Fail::new(words)),
-    }
-}
-
-/// The move that has just a name.
-fn plain_move(words: &str) -> Option<Move> {
-    Some(match words {
-        "give" => Move::Give,
-        "take" => Move::Take,
-        "drop" => Move::Drop,
-        "undo" => Move::Undo,
-        "skip" => Move::Skip,
-        "settle entries" => Move::SettleEntries,
-        "place" => Move::Place,
-        "show" => Move::Show,
-        "settle anchor" => Move::SettleAnchor,
-        _ => return None,
-    })
-}
-
 /// The two members, and what the first one keeps.
 #[derive(Drop)]
 struct Undoers {
-    first: Replica,
-    second: Replica,
+    members: Members,
     undo: Undo,
     anchor: Anchor,
 }
@@ -82,10 +23,6 @@ fn text_of_undone(alloc: Global, answer: Result<Undone, UndoError>) -> Result<St
         Ok(Undone { edits, chars }) => format!(in alloc; "{edits} {chars}"),
         Err(error) => format!(in alloc; "{error:?}"),
     }
-}
-
-fn text_of_settled(alloc: Global, answer: Result<(), PastError>) -> Result<String, AllocError> {
-    format!(in alloc; "{answer:?}")
 }
 
 fn text_of_place(alloc: Global, answer: Result<u64, PastError>) -> Result<String, AllocError> {
@@ -138,58 +75,68 @@ fn skip(alloc: Global, undo: &mut Undo) -> Result<String, AllocError> {
     format!(in alloc; "{some}")
 }
 
-/// Does what changes the text of a member.
-fn change(alloc: Global, pair: &mut Undoers, what: &Move) -> Result<String, Fail> {
-    match what {
-        Move::Edit(change) => Ok(edit(alloc, &mut pair.undo, &mut pair.first, *change)?),
-        Move::Pass(change) => Ok(pass(alloc, &mut pair.first, *change)?),
-        Move::Other(change) => Ok(pass(alloc, &mut pair.second, *change)?),
-        Move::Give => give(alloc, &pair.first, &mut pair.second),
-        Move::Take => give(alloc, &pair.second, &mut pair.first),
-        Move::Undo => Ok(text_of_undone(alloc, pair.undo.undo(&mut pair.first))?),
-        _ => Ok(look(alloc, pair, what)?),
+impl Undoers {
+    /// What is done with entries, or with the anchor: `edit` with an edit after it, which keeps an entry, `undo` and `skip`;
+    /// `settle entries` and `settle anchor`.
+    fn enter(&mut self, alloc: Global, words: &'static str) -> Result<String, Fail> {
+        let (verb, rest) = word(words);
+        match verb {
+            "edit" => {
+                let change = change_of(rest)?;
+                Ok(edit(alloc, &mut self.undo, &mut self.members.first, change)?)
+            }
+            "undo" => Ok(text_of_undone(alloc, self.undo.undo(&mut self.members.first))?),
+            "skip" => Ok(skip(alloc, &mut self.undo)?),
+            "settle" => Ok(text_of_settled(alloc, self.settle(rest))?),
+            _ => self.point(alloc, words),
+        }
     }
-}
 
-/// Does what doesn't.
-fn look(alloc: Global, pair: &mut Undoers, what: &Move) -> Result<String, AllocError> {
-    match what {
-        Move::Drop => drop_stable(alloc, &mut pair.first),
-        Move::Skip => skip(alloc, &mut pair.undo),
-        Move::SettleEntries => text_of_settled(alloc, pair.undo.settle(&pair.first)),
-        Move::Set(at) => set(alloc, &mut pair.anchor, Anchor::at(&pair.first, *at)),
-        Move::SetBefore(at) => set(alloc, &mut pair.anchor, Anchor::before(&pair.first, *at)),
-        Move::Place => text_of_place(alloc, pair.anchor.place(&pair.first)),
-        Move::SettleAnchor => text_of_settled(alloc, pair.anchor.settle(&pair.first)),
-        _ => text_of_anchor(alloc, &pair.anchor),
+    fn settle(&mut self, what: &str) -> Result<(), PastError> {
+        match what {
+            "entries" => self.undo.settle(&self.members.first),
+            _ => self.anchor.settle(&self.members.first),
+        }
+    }
+
+    /// What is done with the anchor alone: `set 3`, after the character before it, or `before 3`, before the character after it; `place`;
+    /// and `show`, its epoch, the length of its identifier and the last of its tuples.
+    fn point(&mut self, alloc: Global, words: &'static str) -> Result<String, Fail> {
+        let (verb, rest) = word(words);
+        let first = &self.members.first;
+        match verb {
+            "set" => Ok(set(alloc, &mut self.anchor, Anchor::at(first, number(rest)?.0))?),
+            "before" => Ok(set(
+                alloc,
+                &mut self.anchor,
+                Anchor::before(first, number(rest)?.0),
+            )?),
+            "place" => Ok(text_of_place(alloc, self.anchor.place(first))?),
+            "show" => Ok(text_of_anchor(alloc, &self.anchor)?),
+            _ => Err(Fail::new(words)),
+        }
     }
 }
 
 impl Pair for Undoers {
+    fn fresh(alloc: Global, members: u32) -> Result<Undoers, Fail> {
+        Ok(Undoers {
+            members: Members::fresh(alloc, members)?,
+            undo: Undo::new(alloc),
+            anchor: Anchor::Beginning,
+        })
+    }
+
     fn play(&mut self, alloc: Global, words: &'static str) -> Result<String, Fail> {
-        change(alloc, self, &move_of(words)?)
+        match self.members.play(alloc, words)? {
+            Some(answer) => Ok(answer),
+            None => self.enter(alloc, words),
+        }
     }
 
     fn first(&self) -> &Replica {
-        &self.first
+        &self.members.first
     }
-}
-
-/// Two fresh members of group 7, of which the first knows of this many.
-fn pair_of(alloc: Global, members: u32) -> Result<Undoers, Fail> {
-    Ok(Undoers {
-        first: Replica::new(alloc, 7, 0, members)?,
-        second: Replica::new(alloc, 7, 1, 2)?,
-        undo: Undo::new(alloc),
-        anchor: Anchor::Beginning,
-    })
-}
-
-/// Leads two fresh members, the first of a group of this many, through the rows, and answers the first that goes otherwise than it
-/// has to.
-fn fault(alloc: Global, members: u32, rows: &[Row]) -> Result<Option<usize>, Fail> {
-    let mut pair = pair_of(alloc, members)?;
-    fault_among(alloc, &mut pair, rows)
 }
 
 /// An insertion is undone whole, around what another member wrote into it, also through that member's rename, and when all of it is
@@ -377,5 +324,7 @@ const TABLES: &[(u32, &[Row])] = &[
 
 #[test]
 fn moves_are_answered(rt: HostRuntime) -> Result<(), Fail> {
-    all_go_within(TABLES, |(members, rows)| fault(rt.alloc(), *members, rows))
+    all_go_within(TABLES, |(members, rows)| {
+        fault::<Undoers>(rt.alloc(), *members, rows)
+    })
 }

@@ -49,8 +49,8 @@ fn put_in(copy: &mut Text, at: usize, text: &Text) -> Result<(), Fail> {
         return Err(Fail::new("place of an insertion"));
     }
     let rest = copy.split_off(at)?;
-    copy.append(text.copy()?)?;
-    copy.append(rest)?;
+    copy.append(text)?;
+    copy.append(&rest)?;
     Ok(())
 }
 
@@ -60,7 +60,7 @@ fn cut_out(copy: &mut Text, at: usize, count: usize) -> Result<(), Fail> {
     }
     let mut rest = copy.split_off(at)?;
     rest.drop_front(count);
-    copy.append(rest)?;
+    copy.append(&rest)?;
     Ok(())
 }
 
@@ -124,16 +124,6 @@ fn edit(
     Ok(())
 }
 
-fn inserts(
-    alloc: Global,
-    side: &mut Side,
-    dice: &mut Dice,
-    changes: &mut Vec<Change>,
-) -> Result<(), Fail> {
-    let made = insertion(alloc, dice, side.replica.total())?;
-    edit(side, dice, &made, changes)
-}
-
 /// A deletion, where there is something to delete.
 fn deletes(side: &mut Side, dice: &mut Dice, changes: &mut Vec<Change>) -> Result<(), Fail> {
     let total = side.replica.total();
@@ -173,7 +163,10 @@ fn acts(
     changes: &mut Vec<Change>,
 ) -> Result<(), Fail> {
     match dice.roll(12) {
-        0 | 1 | 2 | 3 => inserts(alloc, side, dice, changes),
+        0 | 1 | 2 | 3 => {
+            let made = insertion(alloc, dice, side.replica.total())?;
+            edit(side, dice, &made, changes)
+        }
         4 | 5 => deletes(side, dice, changes),
         6 => undoes(side, changes),
         7 => goes_back(side, changes),
