@@ -22,7 +22,7 @@ use Rattle.rls_model.specs.Parts.{epoch_part, epoch_parts, node_of, top_part}
 use Rattle.rls_blocks.specs.Trees.{Piece}
 use Rattle.rls_codec.proofs.Appending.{flat_map_pushed}
 use Rattle.rls_seen.specs.Kept.{other_rows, left_below}
-use Rattle.rls_snapshot.specs.Blocks.{run_with_text, runs_with_texts}
+use Rattle.rls_parts.specs.Blocks.{run_with_text, runs_with_texts}
 use Rattle.rls_fields.specs.FieldSizes.{epoch_size, rest_size, opening, text_run_size}
 use Rattle.rls_fields.specs.Fields.{stem_bytes, own_of, others_of, stems_bytes}
 use Rattle.rls_fields.specs.Written.{FitsChars, FitsFormer}

@@ -6,7 +6,7 @@ use Rattle.rls_model.specs.declared.parts.Stem.{Stem}
 use Rattle.rls_model.specs.declared.parts.EpochPart.{EpochPart}
 use Rattle.rls_model.specs.declared.parts.TextRun.{TextRun}
 use Rattle.rls_model.specs.declared.parts.Parts.{Parts}
-pub use Rattle.rls_stems.specs.Own.{own_of}
+pub use Rattle.rls_parts.specs.Own.{own_of}
 use Rattle.rls_parts.specs.Rules.{Broken}
 
 -- magic text, form, group, count of members and own number

@@ -16,8 +16,8 @@ use rls_codec::{put_name, put_runs, put_u32};
 use rls_epoch::Epochs;
 use rls_ident::EpochName;
 use rls_ops::size::{name_len, runs_len};
+use rls_parts::Places;
 use rls_rename::Renaming;
-use rls_snapshot::Places;
 use std::alloc::AllocError;
 
 // The place of a kept epoch's parent among these, and the renaming that opened the epoch; none for the topmost.

@@ -7,7 +7,7 @@ ghost use Rattle.rls_fields.specs.Fields.{own_of, stem_bytes, stems_bytes};
 
 use rls_codec::{put_i32, put_u32};
 use rls_model::Stem;
-use rls_stems::StemTable;
+use rls_parts::StemTable;
 use std::alloc::AllocError;
 
 // A stem without its author.

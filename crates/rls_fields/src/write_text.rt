@@ -5,7 +5,7 @@ ghost use Rattle.std.specs.List.{flat_map};
 ghost use Rattle.rls_ops.specs.Spelling.{counted};
 ghost use Rattle.rls_model.specs.Parts.{text_runs};
 ghost use Rattle.rls_blocks.specs.Trees.{entries_of};
-ghost use Rattle.rls_snapshot.specs.Blocks.{runs_with_texts};
+ghost use Rattle.rls_parts.specs.Blocks.{runs_with_texts};
 ghost use Rattle.rls_fields.specs.Fields.{text_run_bytes};
 ghost use Rattle.rls_fields.specs.FieldSizes.{text_run_size};
 ghost use Rattle.rls_fields.specs.Written.{FitsChars};

@@ -1,9 +1,15 @@
-//! What replica files of all forms say, and the journals of form 1, read.
+//! Replica files: what those of all forms say, journals of form 1 read, and a replica stored as a file and loaded again.
 #![tactic(auto)]
 
 mod head;
 pub mod laws;
+mod lengths;
+mod loading;
+mod puts;
 mod reading;
+mod saving;
 
 pub use head::form;
+pub use loading::{FileError, decode_file, load_file};
 pub use reading::journal;
+pub use saving::{SaveError, encode_file};

@@ -35,8 +35,8 @@ use Rattle.rls_seen.proofs.Keeping.{text_alike}
 use Rattle.rls_seen.proofs.Releasing.{first_alike}
 use Rattle.rls_seen.proofs.Repeating.{all_done}
 use Rattle.rls_seen.proofs.Sending.{message_alike, message_fits}
-use Rattle.rls_store.proofs.HistoryMessages.{sent_is_message}
-use Rattle.rls_store.proofs.Storable.{released_still}
+use Rattle.rls_file.proofs.HistoryMessages.{sent_is_message}
+use Rattle.rls_file.proofs.Storable.{released_still}
 use Rattle.rls_undo.specs.declared.entry.Entry.{Entry}
 use Rattle.rls_undo.specs.Undoing.{last_of, performed, planned, refusal}
 use Rattle.rls_undo.proofs.Alike.{planned_alike}

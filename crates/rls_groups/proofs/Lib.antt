@@ -1,3 +1,6 @@
+mod Stored
+pub mod Survived
+mod SessionsOnDisk
 mod Past
 mod Staying
 mod Requests

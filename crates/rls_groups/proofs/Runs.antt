@@ -30,7 +30,7 @@ use Rattle.rls_session.specs.Replies.{saved_text}
 use Rattle.rls_session.specs.Sessions.{by_parts}
 use Rattle.rls_session.proofs.Courses.{courses_end}
 use Rattle.rls_journal.proofs.Moments.{leaves_weaker}
-use Rattle.rls_durable.specs.Stops.{IsOld, IsOldOrOneOf, LeavesOldOrDue}
+use Rattle.rls_groups.specs.Stops.{IsOld, IsOldOrOneOf, LeavesOldOrDue}
 use Rattle.rls_journal.specs.Keeper.{IsOldOrNew}
 use Rattle.rls_groups.specs.Events as events
 use Rattle.rls_groups.specs.Events.{Commands, Deed, Sits, empty_desk, printed_of, replica_at, saved_of, session_at, session_due, stored_of}

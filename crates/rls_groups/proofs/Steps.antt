@@ -25,8 +25,8 @@ use Rattle.rls_model.proofs.WorldsLaws.{posts, sends}
 use Rattle.rls_model.proofs.WorldsPast.{taking_goes_on}
 use Rattle.rls_model.proofs.WorldsArrived.{edit_stays}
 use Rattle.rls_file.specs.Storable.{IsStorable}
-use Rattle.rls_store.proofs.HistoryRuns.{taken_storable}
-use Rattle.rls_store.proofs.HistorySteps.{edited_storing, stored, storing}
+use Rattle.rls_file.proofs.HistoryRuns.{taken_storable}
+use Rattle.rls_file.proofs.HistorySteps.{edited_storing, stored, storing}
 use Rattle.rls_undo.specs.Undoing.{performed, unless}
 use Rattle.rls_groups.proofs.Staying.{Follows, follows_self, follows_trans}
 

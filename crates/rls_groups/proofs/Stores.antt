@@ -55,7 +55,7 @@ use Rattle.rls_session.proofs.Courses.{IsSameCourse, courses_alike}
 use Rattle.rls_journal.specs.Areas.{Areas, kept}
 use Rattle.rls_journal.specs.Disk.{LeavesOnly}
 use Rattle.rls_journal.specs.Keeper.{IsOldOrNew}
-use Rattle.rls_durable.specs.Stops.{IsOld, LeavesInStore, LeavesInTurn}
+use Rattle.rls_groups.specs.Stops.{IsOld, LeavesInStore, LeavesInTurn}
 use Rattle.rls_journal.proofs.Moments.{leaves_both, leaves_weaker}
 use Rattle.rls_groups.specs.Events as events
 use Rattle.rls_groups.specs.Events.{Deed, Sits, after_run, at_desk, replica_at, saved_of, session_due}

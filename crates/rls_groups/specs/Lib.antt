@@ -1,3 +1,4 @@
+pub mod Stops
 pub mod Events
 pub mod Lives
 pub mod Groups

@@ -22,7 +22,7 @@ use Rattle.rls_session.specs.Serving.{SessionEnds}
 use Rattle.rls_session.specs.Answers.{Sitting, sitting_at, stretches_by}
 use Rattle.rls_session.specs.Courses.{Stretch}
 use Rattle.rls_session.specs.Sessions.{by_history, by_parts}
-use Rattle.rls_durable.specs.Stops.{LeavesOldOrDue, LeavesOldOrStores}
+use Rattle.rls_groups.specs.Stops.{LeavesOldOrDue, LeavesOldOrStores}
 use Rattle.rls_groups.specs.Events.{Commands, Deed, Sits, after_run, empty_desk, replica_at, session_at, session_due}
 
 -- the member's file, as the group has it

@@ -26,7 +26,7 @@ pub fn runs_are_events<K: Keeper, S: Source, W: Sink>()
     ensures stores { StoresLeave S W K.load_gives K.store_gives }
 {}
 
-/// The same of a stop at any moment, by the clauses of `rls_durable`. Of a session that stores more than once it leaves the file of one of its
+/// The same of a stop at any moment, by the clauses of `rls_groups`. Of a session that stores more than once it leaves the file of one of its
 /// stores, one after another.
 pub fn stops_are_events<D: Disk>()
     ensures stops { StopsLeave D.moment D.left_since (StoreGives D.retries D.seen D.may_leave D.moment D.left_since) }

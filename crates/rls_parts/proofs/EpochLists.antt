@@ -18,24 +18,10 @@ use Rattle.rls_model.specs.declared.parts.EpochPart.{EpochPart}
 use Rattle.rls_model.specs.declared.parts.Parts.{Parts}
 use Rattle.rls_parts.specs.Reading.{name_or_origin, top_name, with_node, nodes_onto, nodes_of, names_of}
 use Rattle.rls_parts.specs.Rules.{epoch_fault, is_epoch_behind, is_new, is_opened, is_place_below, is_former_count, is_covered_by, is_greater, may_be_top}
+use Rattle.rls_parts.specs.Building.{IsEntry, AreEntries}
 use Rattle.rls_parts.proofs.Passing.{epoch_first}
 
 -- ---- what the rule says of an entry past the first
-
-pub record IsEntry (p : Parts) (earlier : List EpochPart) (e : EpochPart) : Type 0 where
-  pub replica : ℕ
-  pub seq : ℕ
-  pub named : e.name ≡ Of replica seq
-  pub member : replica < p.members
-  pub begun : 0 < seq
-  pub counted : seq ≤ slice_index p.vector replica
-  pub place : ℕ
-  pub parent : e.parent ≡ Some place
-  pub below : place < length earlier
-  pub new : IsIn e.name (names_of earlier) → ⊥
-  pub some : 0 < length e.former
-  pub few : length e.former ≤ IDENTIFIERS
-  pub covered : is_covered_by p.stems (Of replica seq) (length e.former) ≡ true
 
 pub opened_name : (p : Parts) (n : EpochName) → is_opened p n ≡ true → (r : ℕ) × (s : ℕ) × (n ≡ Of r s) × (r < p.members) × (0 < s) × (s ≤ slice_index p.vector r)
 opened_name p Origin h = absurd (cc)
@@ -245,11 +231,6 @@ module _ (p : Parts) (all : List EpochPart) (f : EpochPart) (fs : List EpochPart
 
   one_more : IsBuilt p all f (fs ++ e ∷ []) (with_node all e e.name e.parent ns)
   one_more = subst (IsBuilt p all f (fs ++ e ∷ [])) (sym (node_made all e c.replica c.seq c.place ns c.named c.parent)) grown
-
--- each entry stands by the rule, but for the order, after f and those before it
-abbrev pub AreEntries : Parts → EpochPart → List EpochPart → List EpochPart → Type 0
-AreEntries p f fs [] = Unit {0}
-AreEntries p f fs (e ∷ es) = IsEntry p (f ∷ fs) e × AreEntries p f (fs ++ e ∷ []) es
 
 pub are_entries : (p : Parts) (f : EpochPart) (fs es : List EpochPart) → epoch_fault p (f ∷ fs) es ≡ None → AreEntries p f fs es
 are_entries p f fs [] h = tt

@@ -25,7 +25,8 @@ use Rattle.rls_seen.proofs.StemNumbers.{found_stem}
 use Rattle.rls_parts.specs.Given.{AreEpochParts}
 use Rattle.rls_parts.specs.Reading.{top_name, with_node, nodes_onto, nodes_of, epochs_of, names_of, in_epoch, stable_of_parts}
 use Rattle.rls_parts.specs.Rules.{epoch_fault, may_be_top, has_offsets, is_covered_by, has_stable, text_fault, is_text_of, is_used_everywhere, is_used_tuple}
-use Rattle.rls_parts.proofs.EpochLists.{IsEntry, IsNodeOf, IsBuilt, opened_name, first_top, each_entry, built, are_nodes}
+use Rattle.rls_parts.specs.Building.{IsEntry}
+use Rattle.rls_parts.proofs.EpochLists.{IsNodeOf, IsBuilt, opened_name, first_top, each_entry, built, are_nodes}
 use Rattle.rls_parts.proofs.Passing.{text_each}
 
 -- ---- the tree

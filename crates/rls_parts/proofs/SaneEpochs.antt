@@ -35,7 +35,8 @@ use Rattle.rls_model.specs.Stems.{stem_of, has_used}
 use Rattle.rls_seen.specs.Sane.{AreEpochs, IsCounted, IsCovered}
 use Rattle.rls_parts.specs.Reading.{nodes_of, names_of}
 use Rattle.rls_parts.specs.Rules.{epoch_fault, is_epoch_behind, is_new, is_opened, is_place_below, is_former_count, has_offsets, is_covered_by, is_greater, last_name, may_be_top}
-use Rattle.rls_parts.proofs.EpochLists.{AreEntries, IsEntry, IsNodeOf, IsBuilt, are_nodes, built_by, name_at}
+use Rattle.rls_parts.specs.Building.{AreEntries, IsEntry}
+use Rattle.rls_parts.proofs.EpochLists.{IsNodeOf, IsBuilt, are_nodes, built_by, name_at}
 use Rattle.rls_parts.proofs.RestoredParts.{place_found}
 use Rattle.rls_parts.proofs.StandsAgain.{part_name, part_names, same_node}
 

@@ -3,4 +3,15 @@ pub mod Reading
 pub mod Rules
 pub mod Restored
 pub mod PartsLaws
+pub mod Lines
+pub mod Reaches
+pub mod Seen
+pub mod Tables
+pub mod Own
+pub mod Tested
+pub mod Building
+pub mod Used
+pub mod Whole
+pub mod Blocks
+pub mod Places
 pub mod Computing

@@ -26,7 +26,7 @@ use Rattle.rls_seen.proofs.Fitting.{facts, name_new}
 use Rattle.rls_seen.proofs.Needed.{total_room, former_room}
 use Rattle.rls_seen.proofs.StemNumbers.{each_stem}
 use Rattle.rls_seen.proofs.Written.{newborn}
-use Rattle.rls_stems.specs.Tables.{IsNewest}
+use Rattle.rls_parts.specs.Tables.{IsNewest}
 use Rattle.rls_replica.specs.Changing.{renaming_in, former_in, renamed_from, MayInsert, MayRename}
 
 -- ---- the map of a rename

@@ -30,10 +30,10 @@ use rls_epoch::Epochs;
 use rls_ident::{EpochName, Ident, Vector, rely};
 use rls_log::Log;
 use rls_ops::{Body, Op, covers};
+use rls_parts::StemTable;
 use rls_rename::{Renaming, RenamingError};
 use rls_runs::{Run, Runs, Text};
 use rls_stable::Acks;
-use rls_stems::StemTable;
 use rls_tree::BlockTree;
 use std::alloc::{AllocError, Global};
 

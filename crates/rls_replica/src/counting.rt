@@ -22,7 +22,7 @@ use rls_ident::{EpochName, Vector};
 use rls_log::Log;
 use rls_model::{Counts, EpochParts, Members, Parts, Rows, Stems, TextRuns};
 use rls_ops::Ops;
-use rls_snapshot::{epoch_parts, left_members, other_rows, text_runs, waiting};
+use rls_parts::{epoch_parts, left_members, other_rows, text_runs, waiting};
 use std::alloc::AllocError;
 
 /// What a replica keeps in memory beside its text and what waits.

@@ -22,7 +22,7 @@ use rls_ident::limits::{CHARACTERS, GREATEST_NUMBER, IDENTIFIERS, OPERATION_BYTE
 use rls_ident::{Ident, rely};
 use rls_model::{Edit, EditError};
 use rls_ops::{Body, Op};
-use rls_stems::Neighbour;
+use rls_parts::Neighbour;
 use std::alloc::AllocError;
 
 impl Replica {

@@ -14,8 +14,8 @@ ghost use Rattle.rls_seen.specs.Stands.{StandsFor};
 use crate::replica::Replica;
 use rls_epoch::Epochs;
 use rls_ident::EpochName;
+use rls_parts::StemTable;
 use rls_stable::Acks;
-use rls_stems::StemTable;
 use std::alloc::AllocError;
 
 impl Replica {

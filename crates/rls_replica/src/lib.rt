@@ -26,6 +26,6 @@ mod uniting;
 pub use counting::Kept;
 pub use replica::{NewError, Replica};
 pub use rls_model::{Counts, Edit, EditError, Parts, Receipt, Refusal, Refusals, Release, Taken};
-pub use rls_rules::{PartsError, Tested, test_all};
+pub use rls_parts::{PartsError, Tested, test_all};
 pub use taking::{SendError, TakeError};
 pub use translating::PastError;

@@ -14,7 +14,7 @@ ghost use Rattle.rls_blocks.specs.Trees.{entries_of};
 ghost use Rattle.rls_parts.specs.Given.{AreGiven, AreRanged, HaveTexts};
 ghost use Rattle.rls_parts.specs.Restored.{entries_of as entries_in, seen_of};
 ghost use Rattle.rls_parts.specs.Rules.{broken};
-ghost use Rattle.rls_rules.specs.Whole.{IsMade};
+ghost use Rattle.rls_parts.specs.Whole.{IsMade};
 ghost use Rattle.rls_replica.specs.Fitting.{HaveFormer, AreFit};
 
 use crate::replica::Replica;
@@ -22,13 +22,13 @@ use rls_causal::Held;
 use rls_ident::rely;
 use rls_model::{EpochPart, Parts, TextRun, TextRuns};
 use rls_ops::{Op, Ops};
-use rls_rules::{PartsError, Tested, test_all};
+use rls_parts::{PartsError, Tested, test_all};
 use rls_tree::{Block, BlockTree};
 use std::alloc::{AllocError, Global};
 use std::cell::Cell;
 
 impl Replica {
-    /// The replica that has these parts. Its text is made a tree in one pass, and rules 3 and 4 cost as `rls_rules` says.
+    /// The replica that has these parts. Its text is made a tree in one pass, and rules 3 and 4 cost as `rls_parts` says.
     ///
     /// # Errors
     ///

@@ -42,7 +42,7 @@ use Rattle.rls_stages.specs.Lines.{fault_in, line_by, text_in}
 use Rattle.rls_stages.specs.Lines as lines
 use Rattle.rls_stages.proofs.Alike.{lines_alike}
 use Rattle.rls_stages.proofs.Meant.{IsLine, IsMeantWell, line_well}
-use Rattle.rls_store.proofs.Storable.{IsStoring, edited_storing, given_op, storing, taken_writable}
+use Rattle.rls_file.proofs.Storable.{IsStoring, edited_storing, given_op, storing, taken_writable}
 use Rattle.rls_undo.specs.declared.entry.Entry.{Entry}
 use Rattle.rls_undo.specs.Undoing.{caught_up, entries_over, last_of, performed, performed_over, planned, planned_over, refusal, refusal_over, without_last}
 use Rattle.rls_undo.proofs.Alike.{caught_up_alike, performed_stands, planned_alike}

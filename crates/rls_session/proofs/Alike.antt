@@ -8,8 +8,8 @@ use Rattle.rls_seen.specs.Seen.{Seen}
 use Rattle.rls_seen.specs.Stands.{StandsFor}
 use Rattle.rls_seen.proofs.Dropped.{dropped_sane}
 use Rattle.rls_seen.proofs.Keeping.{dropped_stands}
-use Rattle.rls_store.specs.Stored.{AreWritable}
-use Rattle.rls_store.proofs.Files.{dropped_writable}
+use Rattle.rls_file.specs.Stored.{AreWritable}
+use Rattle.rls_file.proofs.Files.{dropped_writable}
 use Rattle.rls_undo.specs.declared.entry.Entry.{Entry}
 use Rattle.rls_undo.specs.Undoing.{last_entries, settled, settled_over}
 use Rattle.rls_anchor.specs.Anchors as anchors

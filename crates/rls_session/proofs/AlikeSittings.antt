@@ -11,8 +11,8 @@ use Rattle.rls_seen.specs.Seen.{Seen}
 use Rattle.rls_seen.specs.Stands.{StandsFor}
 use Rattle.rls_seen.proofs.Releasing.{released_all_stands}
 use Rattle.rls_replica.proofs.KeptNames.{all_names}
-use Rattle.rls_store.specs.Stored.{AreWritable}
-use Rattle.rls_store.proofs.Storable.{IsStoring, edited_storing, storing}
+use Rattle.rls_file.specs.Stored.{AreWritable}
+use Rattle.rls_file.proofs.Storable.{IsStoring, edited_storing, storing}
 use Rattle.rls_undo.specs.UndoLaws.{AreWhole}
 use Rattle.rls_undo.specs.Undoing.{performed_over}
 use Rattle.rls_changes.specs.declared.change.Change.{Change}
@@ -23,7 +23,7 @@ use Rattle.rls_session.specs.Courses.{Answered}
 use Rattle.rls_session.specs.Desks.{IsWhole}
 use Rattle.rls_session.specs.Sessions.{by_history, by_parts}
 use Rattle.rls_session.proofs.Steps.{AreStepsAlike, steps_after}
-use Rattle.rls_store.proofs.Storable.{all_writable}
+use Rattle.rls_file.proofs.Storable.{all_writable}
 use Rattle.rls_session.proofs.Whole.{whole_on}
 
 -- the texts of entries

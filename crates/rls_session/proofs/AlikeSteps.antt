@@ -5,7 +5,7 @@ use Rattle.rls_model.specs.Receiving.{State}
 use Rattle.rls_model.specs.Laws.{AreEdits}
 use Rattle.rls_seen.specs.Seen.{Seen}
 use Rattle.rls_replica.specs.Names.{KeepsNames}
-use Rattle.rls_store.proofs.Storable.{IsStoring, storing}
+use Rattle.rls_file.proofs.Storable.{IsStoring, storing}
 use Rattle.rls_undo.proofs.Performed.{performed_names}
 use Rattle.rls_changes.specs.Edits.{edit_changes}
 use Rattle.rls_steps.specs.declared.piece.Step.{Step}
@@ -21,7 +21,7 @@ use Rattle.rls_session.specs.Courses.{Answered}
 use Rattle.rls_session.specs.Replies.{again_text, back_text, groups_text, nothing_text}
 use Rattle.rls_session.specs.Sessions.{by_history, by_parts}
 use Rattle.rls_session.proofs.Steps.{AreBegun, kept_steps, steps_alike, steps_begun}
-use Rattle.rls_store.proofs.Characters.{text_chars}
+use Rattle.rls_file.proofs.Characters.{text_chars}
 use Rattle.rls_session.proofs.Whole.{whole_on}
 use Rattle.rls_session.proofs.AlikeSittings.{IsAlike, AreAlike, AreAlmost, almost, performed_storing}
 

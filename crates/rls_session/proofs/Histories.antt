@@ -14,7 +14,7 @@ use Rattle.rls_seen.proofs.Keeping.{parts_alike}
 use Rattle.rls_file.specs.Files.{file_bytes}
 use Rattle.rls_report.specs.declared.failures.CommandError.{CommandError}
 use Rattle.rls_report.specs.declared.failures.CommandError.TheVariants.{TooLarge}
-use Rattle.rls_store.specs.Stored.{AreWritable}
+use Rattle.rls_file.specs.Stored.{AreWritable}
 use Rattle.rls_stages.specs.Endings.{IsFault, IsPart, EndsWith}
 use Rattle.rls_stages.specs.KeptFile.{IsFileFor, IsReadBack, StandsIn, bytes_over, loaded, replica_in, saved}
 use Rattle.rls_stages.proofs.Kept.{WithinOrPast, within_or_past}

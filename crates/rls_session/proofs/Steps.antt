@@ -13,7 +13,7 @@ use Rattle.rls_seen.specs.Stands.{StandsFor}
 use Rattle.rls_seen.proofs.Alike.{greatest_alike}
 use Rattle.rls_replica.specs.Names.{KeepsNames, keeps}
 use Rattle.rls_replica.proofs.KeptNames.{accepted_names}
-use Rattle.rls_store.proofs.Characters.{text_chars}
+use Rattle.rls_file.proofs.Characters.{text_chars}
 use Rattle.rls_steps.specs.Forgetting.{forgotten, without_first}
 use Rattle.rls_steps.specs.Grounds.{over, within, begun_on, epoch_or, recorded_on, kept_on, settled_on}
 use Rattle.rls_steps.specs.GroundLaws as steps

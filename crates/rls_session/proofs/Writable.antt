@@ -23,8 +23,8 @@ use Rattle.rls_script.specs.declared.clusters.ClusterError.{ClusterError}
 use Rattle.rls_script.specs.declared.clusters.ClusterError.TheVariants as clusters
 use Rattle.rls_script.specs.declared.lines.Line.{Line}
 use Rattle.rls_script.specs.declared.lines.Line.TheVariants as lines
-use Rattle.rls_store.specs.Stored.{AreWritable}
-use Rattle.rls_store.proofs.Storable.{IsSized, all_sized, edited_sized, sized, taken_writable}
+use Rattle.rls_file.specs.Stored.{AreWritable}
+use Rattle.rls_file.proofs.Storable.{IsSized, all_sized, edited_sized, sized, taken_writable}
 use Rattle.rls_stages.specs.Lines.{allowed_by, backward_by, line_by, line_fault_of}
 use Rattle.rls_undo.specs.declared.entry.Entry.{Entry}
 use Rattle.rls_steps.specs.declared.piece.Step.{Step}

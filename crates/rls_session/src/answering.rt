@@ -17,7 +17,7 @@ ghost use Rattle.rls_session.specs.Sessions.{by_parts};
 ghost use Rattle.rls_session.specs.declared.answering.AnswerError.TheVariants as AnswerError;
 ghost use Rattle.rls_session.specs.declared.answering.Halt.TheVariants as Halt;
 ghost use Rattle.rls_session.specs.declared.orders.Order.TheVariants as Order;
-ghost use Rattle.rls_store.specs.Stored.{AreWritable};
+ghost use Rattle.rls_file.specs.Stored.{AreWritable};
 
 use crate::desk::Desk;
 use crate::intake::Intake;

@@ -21,7 +21,7 @@ ghost use Rattle.rls_session.specs.Replies.{telling_text};
 ghost use Rattle.rls_session.specs.Requests.{Does};
 ghost use Rattle.rls_session.specs.Sent.{SendsMessage};
 ghost use Rattle.rls_session.specs.Sessions.{by_parts};
-ghost use Rattle.rls_store.specs.Stored.{AreWritable};
+ghost use Rattle.rls_file.specs.Stored.{AreWritable};
 
 mod settling;
 

@@ -14,7 +14,7 @@ ghost use Rattle.rls_session.specs.Serving.{EndsOrGoesOn, SaveEnds, SessionEnds,
 ghost use Rattle.rls_session.specs.Sessions.{by_parts, session_in};
 ghost use Rattle.rls_session.specs.Answers.{resumed, sitting_at};
 ghost use Rattle.rls_session.specs.declared.answering.Halt.TheVariants as Halt;
-ghost use Rattle.rls_store.specs.Stored.{AreWritable};
+ghost use Rattle.rls_file.specs.Stored.{AreWritable};
 
 use crate::answering::{Halt, answer_all, write};
 use crate::desk::Desk;

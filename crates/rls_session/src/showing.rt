@@ -4,7 +4,7 @@ ghost use Rattle.std.specs.Prelude.{◌≡◌, IfOk, OnOk};
 ghost use Rattle.rls_session.specs.Answers.{sent, stat_reply, text_reply};
 ghost use Rattle.rls_session.specs.Sent.{CanSend};
 ghost use Rattle.rls_session.specs.Sessions.{by_parts};
-ghost use Rattle.rls_store.specs.Stored.{AreWritable};
+ghost use Rattle.rls_file.specs.Stored.{AreWritable};
 
 use crate::replies;
 use rls_replica::{Replica, SendError};

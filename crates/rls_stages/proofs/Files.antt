@@ -11,9 +11,9 @@ use Rattle.rls_seen.proofs.Keeping.{parts_alike}
 use Rattle.rls_file.specs.Files.{Content, Journal, Snapshot, newest_form}
 use Rattle.rls_file.specs.FileLaws.{IsFile}
 use Rattle.rls_file.proofs.FileFormats.{file_reads}
-use Rattle.rls_store.specs.Loading.{seen_in}
-use Rattle.rls_store.specs.Stored.{AreWritable}
-use Rattle.rls_store.proofs.Files.{IsOpenedAs, journal_opens, snapshot_opens}
+use Rattle.rls_file.specs.Loading.{seen_in}
+use Rattle.rls_file.specs.Stored.{AreWritable}
+use Rattle.rls_file.proofs.Files.{IsOpenedAs, journal_opens, snapshot_opens}
 use Rattle.rls_stages.specs.KeptFile.{IsFileFor, bytes_over, replica_in}
 
 -- the replica of a file, with all that is known of it

@@ -10,7 +10,7 @@ use Rattle.rls_seen.specs.Seen.{Seen}
 use Rattle.rls_file.specs.FileLaws.{IsFile}
 use Rattle.rls_file.specs.Files.{Content, Journal, Snapshot, file_bytes, newest_form}
 use Rattle.rls_file.specs.ReadingFiles.{file_of}
-use Rattle.rls_store.specs.Loading.{seen_in}
+use Rattle.rls_file.specs.Loading.{seen_in}
 use Rattle.rls_report.specs.declared.failures.CommandError.{CommandError}
 use Rattle.rls_report.specs.declared.failures.CommandError.TheVariants.{NoReplica, Damaged, TooLarge}
 

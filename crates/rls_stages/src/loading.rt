@@ -5,18 +5,18 @@ ghost use Rattle.rls_io.specs.Device.{Rose, Keeps};
 ghost use Rattle.rls_io.specs.Memory.{bytes_of};
 ghost use Rattle.rls_file.specs.ReadingFiles.{file_of};
 ghost use Rattle.rls_seen.specs.Sane.{IsSane};
-ghost use Rattle.rls_store.specs.Stored.{AreWritable};
+ghost use Rattle.rls_file.specs.Stored.{AreWritable};
 ghost use Rattle.rls_stages.specs.Calls.{HasLoaded};
 ghost use Rattle.rls_stages.specs.KeptFile.{loaded, replica_of, replica_in};
 ghost use Rattle.rls_stages.specs.Errors.{Gives, IsOpenError, of_open};
 
 use crate::errors::OpenError;
+use rls_file::{FileError, load_file};
 use rls_ident::limits::FILE_BYTES;
 use rls_ident::rely;
 use rls_io::{Found, Keeper, LoadError};
 use rls_replica::Replica;
 use rls_report::CommandError;
-use rls_store::{FileError, load_file};
 use std::alloc::Global;
 
 /// The bytes of the kept file, if there is one. It is too large with more than 268,435,456 bytes. The keeper's file stays as it is.

@@ -2,13 +2,13 @@
 
 ghost use Rattle.std.specs.Prelude.{◌≡◌, IfOk, OnOk};
 ghost use Rattle.rls_stages.specs.KeptFile.{IsReadBack, bytes_over, saved};
-ghost use Rattle.rls_store.specs.Stored.{AreWritable};
+ghost use Rattle.rls_file.specs.Stored.{AreWritable};
 ghost use Rattle.rls_stages.specs.Errors.{Gives, of_work};
 
 use crate::errors::WorkError;
+use rls_file::{SaveError, encode_file};
 use rls_replica::Replica;
 use rls_report::CommandError;
-use rls_store::{SaveError, encode_file};
 use std::alloc::Global;
 
 /// The file of a replica, in the newest form. It is too large with more than 268,435,456 bytes. The file of a replica that may be

@@ -17,7 +17,7 @@ use Rattle.rls_seen.specs.Stands.{StandsFor}
 use Rattle.rls_seen.proofs.Counting.{members_accepted}
 use Rattle.rls_seen.proofs.Editing.{edited_stands}
 use Rattle.rls_seen.proofs.Taking.{Goes, Stands, machines_agree, started_goes}
-use Rattle.rls_store.specs.Kept.{ReadsWell}
+use Rattle.rls_file.specs.Kept.{ReadsWell}
 use Rattle.rls_stages.proofs.Alike.{ReadsAlike}
 use Rattle.rls_top.specs.Scripts.{run_lines}
 

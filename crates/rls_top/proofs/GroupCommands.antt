@@ -36,12 +36,12 @@ use Rattle.rls_seen.proofs.Sending.{message_alike, message_fits}
 use Rattle.rls_seen.proofs.Taking.{taken_stands}
 use Rattle.rls_file.specs.Files.{file_bytes}
 use Rattle.rls_file.specs.Storable.{IsStorable}
-use Rattle.rls_store.specs.Kept.{ReadsWell}
-use Rattle.rls_store.specs.Stored.{AreWritable}
-use Rattle.rls_store.proofs.HistoryFields.{storable_again}
-use Rattle.rls_store.proofs.HistoryMessages.{sent_is_message}
-use Rattle.rls_store.proofs.HistoryRuns.{lines_storable, taken_storable}
-use Rattle.rls_store.proofs.Storable.{taken_writable}
+use Rattle.rls_file.specs.Kept.{ReadsWell}
+use Rattle.rls_file.specs.Stored.{AreWritable}
+use Rattle.rls_file.proofs.HistoryFields.{storable_again}
+use Rattle.rls_file.proofs.HistoryMessages.{sent_is_message}
+use Rattle.rls_file.proofs.HistoryRuns.{lines_storable, taken_storable}
+use Rattle.rls_file.proofs.Storable.{taken_writable}
 use Rattle.rls_report.specs.Reports.{edit_text, take_text}
 use Rattle.rls_report.specs.declared.failures.CommandError.{CommandError}
 use Rattle.rls_report.specs.declared.failures.CommandError.TheVariants.{NotMember, TooLarge}

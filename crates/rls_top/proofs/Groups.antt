@@ -34,8 +34,8 @@ use Rattle.rls_seen.proofs.Starting.{fresh_stands}
 use Rattle.rls_seen.proofs.Staying.{fresh_sane}
 use Rattle.rls_world.specs.Seen.{fresh_replicas}
 use Rattle.rls_world.proofs.Beginning.{fresh_length as replicas_length}
-use Rattle.rls_store.proofs.HistoryRuns.{fresh_storable}
-use Rattle.rls_store.proofs.Storable.{fresh_writable}
+use Rattle.rls_file.proofs.HistoryRuns.{fresh_storable}
+use Rattle.rls_file.proofs.Storable.{fresh_writable}
 use Rattle.rls_report.specs.Listing.{ids_of, ids_text}
 use Rattle.rls_report.specs.declared.failures.CommandError.{CommandError}
 use Rattle.rls_top.specs.declared.words.Command.{Command}

@@ -49,7 +49,7 @@ use Rattle.rls_script.specs.Scripts.{script_of}
 use Rattle.rls_script.specs.declared.lines.Line.{Line}
 use Rattle.rls_file.specs.Files.{file_bytes}
 use Rattle.rls_file.specs.SpelledFiles.{IsHead}
-use Rattle.rls_store.specs.Stored.{AreWritable}
+use Rattle.rls_file.specs.Stored.{AreWritable}
 use Rattle.rls_top.specs.declared.words.Command.{Command}
 use Rattle.rls_top.specs.declared.words.Command.TheVariants.{New, OnFile}
 use Rattle.rls_top.specs.declared.words.FileCommand.{FileCommand}
@@ -68,7 +68,7 @@ use Rattle.rls_stages.proofs.Alike.{allowed_alike, lines_alike}
 use Rattle.rls_stages.proofs.Kept.{WithinOrPast, within_or_past}
 use Rattle.rls_stages.proofs.Statuses.{not_error}
 use Rattle.rls_stages.proofs.Files.{IsOpened, opened, stands_stored}
-use Rattle.rls_store.proofs.Storable.{fresh_writable, taken_writable}
+use Rattle.rls_file.proofs.Storable.{fresh_writable, taken_writable}
 use Rattle.rls_top.proofs.Alike.{runs_alike, stops_alike}
 use Rattle.rls_top.proofs.Fresh.{fresh_short}
 use Rattle.rls_top.proofs.Pieces.{is_not_sent, right_numbers}

@@ -11,11 +11,11 @@ use Rattle.rls_seen.specs.Edits.{edit_fault_over}
 use Rattle.rls_seen.specs.Messages.{Course}
 use Rattle.rls_seen.specs.Sane.{IsSane}
 use Rattle.rls_seen.specs.Seen.{Seen, text_over}
-use Rattle.rls_store.specs.Kept.{ReadsWell}
-use Rattle.rls_store.specs.Stored.{AreWritable}
+use Rattle.rls_file.specs.Kept.{ReadsWell}
+use Rattle.rls_file.specs.Stored.{AreWritable}
 use Rattle.rls_stages.specs.Lines.{allowed, read_line}
 use Rattle.rls_stages.proofs.Meant.{IsGood, IsLine, IsMeantWell, allowed_well, line_good, line_well}
-use Rattle.rls_store.proofs.Storable as storable
+use Rattle.rls_file.proofs.Storable as storable
 use Rattle.rls_top.specs.Scripts.{run_lines}
 
 -- ---- what lines mean

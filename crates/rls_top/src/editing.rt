@@ -6,7 +6,7 @@ ghost use Rattle.rls_script.specs.Scripts.{script_of};
 ghost use Rattle.rls_stages.specs.Errors.{of_work};
 ghost use Rattle.rls_stages.specs.KeptFile.{saved};
 ghost use Rattle.rls_seen.specs.Sane.{IsSane};
-ghost use Rattle.rls_store.specs.Stored.{AreWritable};
+ghost use Rattle.rls_file.specs.Stored.{AreWritable};
 ghost use Rattle.rls_top.specs.Due.{due_of_run, due_of_script, stores};
 ghost use Rattle.rls_top.specs.Scripts.{run_script, run_leave};
 ghost use Rattle.rls_top.specs.Stages.{EndsAs, IsDue, IsRun};

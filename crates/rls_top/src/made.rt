@@ -5,7 +5,7 @@ ghost use Rattle.rls_model.specs.Answers.{reason_of};
 ghost use Rattle.rls_report.specs.Refused.{refused_line};
 ghost use Rattle.rls_stages.specs.Errors.{of_work};
 ghost use Rattle.rls_stages.specs.KeptFile.{saved};
-ghost use Rattle.rls_store.specs.Stored.{AreWritable};
+ghost use Rattle.rls_file.specs.Stored.{AreWritable};
 ghost use Rattle.rls_top.specs.Due.{stores, refused_lines};
 ghost use Rattle.rls_top.specs.Stages.{IsDue, IsMade};
 

@@ -5,7 +5,7 @@ ghost use Rattle.rls_io.specs.Device.{Rose, Keeps};
 ghost use Rattle.rls_report.specs.Reports.{new_text};
 ghost use Rattle.rls_seen.specs.Sane.{IsSane};
 ghost use Rattle.rls_seen.specs.Seen.{fresh};
-ghost use Rattle.rls_store.specs.Stored.{AreWritable};
+ghost use Rattle.rls_file.specs.Stored.{AreWritable};
 ghost use Rattle.rls_stages.specs.Calls.{HasLoaded};
 ghost use Rattle.rls_stages.specs.Errors.{of_open, of_work};
 ghost use Rattle.rls_stages.specs.KeptFile.{loaded, saved};

@@ -3,7 +3,7 @@
 ghost use Rattle.std.specs.Prelude.{◌≡◌, ◌≤◌, None, IfOk, OnOk, encode_utf8_all, string_bytes};
 ghost use Rattle.rls_seen.specs.Seen.{text_over};
 ghost use Rattle.rls_world.specs.Trial.{trial};
-ghost use Rattle.rls_store.specs.Stored.{AreWritable};
+ghost use Rattle.rls_file.specs.Stored.{AreWritable};
 ghost use Rattle.rls_top.specs.Due.{due_of_text, due_of_ids, due_of_stat, due_of_send, shows, summary_text};
 ghost use Rattle.rls_stages.specs.Errors.{of_work};
 ghost use Rattle.rls_top.specs.Endings.{IsSent};

@@ -7,7 +7,7 @@ ghost use Rattle.rls_codec.specs.Reading.{message_of};
 ghost use Rattle.rls_report.specs.Reports.{take_text};
 ghost use Rattle.rls_stages.specs.KeptFile.{saved};
 ghost use Rattle.rls_seen.specs.Sane.{IsSane};
-ghost use Rattle.rls_store.specs.Stored.{AreWritable};
+ghost use Rattle.rls_file.specs.Stored.{AreWritable};
 ghost use Rattle.rls_top.specs.Due.{due_of_message, stores};
 ghost use Rattle.rls_stages.specs.Errors.{of_work};
 ghost use Rattle.rls_top.specs.Stages.{IsDue};

@@ -1,6 +1,16 @@
-//! Tests of the commands over devices in memory; and `members`, by which other crates of tests perform commands too.
+//! Tests of commands and sessions, over devices in memory. Those of `large` and `trials`, with inputs and texts at their limits, are run
+//! as they are built, since `rt try`, which runs with checks, takes too long for them.
 #![tactic(auto)]
 
-pub mod members;
+#[cfg(test)]
+mod large;
+#[cfg(test)]
+mod members;
+#[cfg(test)]
+mod pieces;
+#[cfg(test)]
+mod sessions;
 #[cfg(test)]
 mod tests;
+#[cfg(test)]
+mod trials;

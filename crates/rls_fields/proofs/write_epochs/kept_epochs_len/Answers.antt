@@ -3,7 +3,7 @@ use Rattle.std.proofs.lemmas.List.{drop_all}
 use Rattle.rls_ident.specs.declared.epoch_name.EpochName.{EpochName}
 use Rattle.rls_ident.specs.declared.epoch_name.EpochName.TheVariants.{Origin}
 use Rattle.rls_model.specs.Parts.{epoch_part, node_of}
-use Rattle.rls_snapshot.proofs.NamedNodes.{name_in}
+use Rattle.rls_parts.proofs.NamedNodes.{name_in}
 use Rattle.rls_fields.specs.FieldSizes.{epoch_size}
 use Rattle.rls_fields.proofs.Puts.{sum_next, map_next, map_length}
 use Rattle.rls_fields.proofs.write_epochs.kept_epochs_len.Goals as goal

@@ -4,7 +4,7 @@ use Rattle.rls_ident.specs.declared.epoch_name.EpochName.{EpochName}
 use Rattle.rls_ident.specs.declared.epoch_name.EpochName.TheVariants.{Origin}
 use Rattle.rls_ops.specs.Spelling.{name_bytes}
 use Rattle.rls_model.specs.Parts.{epoch_part, epoch_parts, node_of, top_part}
-use Rattle.rls_snapshot.proofs.NamedNodes.{name_in}
+use Rattle.rls_parts.proofs.NamedNodes.{name_in}
 use Rattle.rls_fields.specs.Fields.{epoch_bytes}
 use Rattle.rls_fields.specs.FieldSizes.{epoch_size}
 use Rattle.rls_fields.specs.Written.{FitsFormer}

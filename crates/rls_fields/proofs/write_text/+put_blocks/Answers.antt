@@ -2,7 +2,7 @@ use Rattle.std.proofs.Common.{subst}
 use Rattle.std.specs.Prelude.{All, List}
 use Rattle.std.proofs.lemmas.List.Elements.{All-nil}
 use Rattle.rls_blocks.specs.Trees.{Piece}
-use Rattle.rls_snapshot.specs.Blocks.{runs_with_texts}
+use Rattle.rls_parts.specs.Blocks.{runs_with_texts}
 use Rattle.rls_fields.specs.Written.{FitsChars}
 use Rattle.rls_fields.proofs.Puts.{blocks_fit}
 use Rattle.rls_fields.proofs.write_text.+put_blocks.Goals as goal

@@ -4,8 +4,8 @@ use Rattle.std.specs.List.{flat_map}
 use Rattle.rls_model.specs.declared.parts.TextRun.{TextRun}
 use Rattle.rls_model.specs.Parts.{text_runs}
 use Rattle.rls_blocks.specs.Trees.{Piece, entries_of}
-use Rattle.rls_snapshot.specs.Blocks.{runs_with_texts}
-use Rattle.rls_snapshot.proofs.MaximalRuns.{blocks_are}
+use Rattle.rls_parts.specs.Blocks.{runs_with_texts}
+use Rattle.rls_parts.proofs.MaximalRuns.{blocks_are}
 use Rattle.rls_fields.specs.Fields.{text_run_bytes}
 use Rattle.rls_fields.specs.FieldSizes.{text_run_size}
 use Rattle.rls_fields.specs.Written.{FitsChars}

@@ -1,8 +1,8 @@
 use Rattle.std.proofs.Common.{◌-◌, ◌^◌, ◌∙◌, List, min, sum_by, ap}
 use Rattle.rls_model.specs.declared.parts.TextRun.{TextRun}
 use Rattle.rls_blocks.specs.Trees.{Piece}
-use Rattle.rls_snapshot.specs.Blocks.{runs_with_texts}
-use Rattle.rls_snapshot.proofs.MaximalRuns.{blocks_are}
+use Rattle.rls_parts.specs.Blocks.{runs_with_texts}
+use Rattle.rls_parts.proofs.MaximalRuns.{blocks_are}
 use Rattle.rls_fields.specs.FieldSizes.{text_run_size}
 use Rattle.rls_fields.proofs.write_text.tree_len.Goals as goal
 

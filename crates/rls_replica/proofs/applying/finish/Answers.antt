@@ -3,7 +3,7 @@ use Rattle.rls_rename.specs.Renaming.{Renaming}
 use Rattle.rls_rename.specs.Tree.{Epochs}
 use Rattle.rls_epoch.specs.Seen.{former_sum}
 use Rattle.rls_model.specs.declared.parts.Stem.{Stem}
-use Rattle.rls_stems.specs.Tables.{IsNewest}
+use Rattle.rls_parts.specs.Tables.{IsNewest}
 use Rattle.rls_replica.specs.Changing.{former_in, MayRename}
 use Rattle.rls_replica.proofs.Changes.{newest, may_add, add_room}
 use Rattle.rls_replica.proofs.applying.finish.Goals as goal

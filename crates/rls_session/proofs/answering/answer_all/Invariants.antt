@@ -3,7 +3,7 @@ use Rattle.rls_ident.specs.declared.limits.TheConstants.{INPUT_BYTES}
 use Rattle.rls_session.specs.Answers.{answer}
 use Rattle.rls_session.specs.Intake.{known_come}
 use Rattle.rls_session.specs.Sessions.{by_parts}
-use Rattle.rls_store.specs.Stored.{AreWritable}
+use Rattle.rls_file.specs.Stored.{AreWritable}
 use Rattle.rls_session.proofs.Loop.{OnWay}
 use Rattle.rls_session.proofs.Sent.{AreSent}
 use Rattle.rls_session.proofs.answering.answer_all.Given as goal

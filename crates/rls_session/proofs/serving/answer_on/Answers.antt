@@ -1,6 +1,6 @@
 use Rattle.std.proofs.Common.{subst, sym}
 use Rattle.rls_seen.specs.Seen.{Seen}
-use Rattle.rls_store.specs.Stored.{AreWritable}
+use Rattle.rls_file.specs.Stored.{AreWritable}
 use Rattle.rls_session.specs.Answers.{Sitting}
 use Rattle.rls_session.proofs.serving.answer_on.Goals as goal
 

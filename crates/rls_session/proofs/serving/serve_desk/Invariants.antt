@@ -1,7 +1,7 @@
 use Rattle.std.proofs.Common.{◌≡◌, ◌≤◌, length}
 use Rattle.rls_session.specs.Devices.{devices}
 use Rattle.rls_session.specs.Intake.{known_come}
-use Rattle.rls_store.specs.Stored.{AreWritable}
+use Rattle.rls_file.specs.Stored.{AreWritable}
 use Rattle.rls_session.proofs.Stages.{Reaches}
 use Rattle.rls_session.proofs.serving.serve_desk.Given as goal
 

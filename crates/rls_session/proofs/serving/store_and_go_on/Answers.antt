@@ -5,8 +5,8 @@ use Rattle.rls_session.specs.Answers.{Sitting}
 use Rattle.rls_undo.specs.Undoing.{last_entries}
 use Rattle.rls_session.specs.declared.desk.TheConstants.{KEPT_ENTRIES}
 use Rattle.rls_session.specs.Desks.{IsWhole}
-use Rattle.rls_store.specs.Stored.{AreWritable}
-use Rattle.rls_store.proofs.Files.{dropped_writable}
+use Rattle.rls_file.specs.Stored.{AreWritable}
+use Rattle.rls_file.proofs.Files.{dropped_writable}
 use Rattle.rls_session.proofs.Resumed.{whole_left}
 use Rattle.rls_session.proofs.serving.store_and_go_on.Goals as goal
 

@@ -1,8 +1,8 @@
 use Rattle.std.proofs.Common.{◌∙◌, Err, ap, rules, subst, sym}
 use Rattle.rls_report.specs.declared.failures.CommandError.TheVariants.{BadMembers, BadMe}
 use Rattle.rls_stages.specs.Errors.{of_open}
-use Rattle.rls_store.specs.Stored.{AreWritable}
-use Rattle.rls_store.proofs.Storable.{fresh_writable}
+use Rattle.rls_file.specs.Stored.{AreWritable}
+use Rattle.rls_file.proofs.Storable.{fresh_writable}
 use Rattle.rls_top.specs.Stages.{IsDue}
 use Rattle.rls_top.proofs.Pieces.{called, new_due, no_me, no_member, no_members, numbers_due, uncounted}
 use Rattle.rls_top.proofs.making.make_new.Goals as goal

@@ -5,8 +5,8 @@ use Rattle.rls_ident.proofs.Members.{and_right}
 use Rattle.rls_codec.specs.Reading.{message_of}
 use Rattle.rls_replica.specs.declared.taking.TakeError.TheVariants.{OtherGroup}
 use Rattle.rls_seen.specs.Seen.{members}
-use Rattle.rls_store.specs.Stored.{AreWritable}
-use Rattle.rls_store.proofs.Storable.{taken_writable}
+use Rattle.rls_file.specs.Stored.{AreWritable}
+use Rattle.rls_file.proofs.Storable.{taken_writable}
 use Rattle.rls_sync.proofs.Groups.{not_taken, refused}
 use Rattle.rls_stages.proofs.Kept.{is_ours}
 use Rattle.rls_top.proofs.Messages.{foreign_due, taken_due}

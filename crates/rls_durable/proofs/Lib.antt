@@ -1,3 +1,0 @@
-mod Stored
-pub mod Survived
-mod Sessions

@@ -1,4 +1,0 @@
-pub mod Tested
-pub mod Building
-pub mod Used
-pub mod Whole

@@ -1,3 +1,0 @@
-pub mod NamedNodes
-pub mod FirstPlaces
-pub mod MaximalRuns

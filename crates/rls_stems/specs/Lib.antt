@@ -1,5 +1,0 @@
-pub mod Lines
-pub mod Reaches
-pub mod Seen
-pub mod Tables
-pub mod Own

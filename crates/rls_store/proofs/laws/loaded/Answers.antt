@@ -1,5 +1,0 @@
-use Rattle.rls_store.proofs.Loaded.{loaded_writable}
-use Rattle.rls_store.proofs.laws.loaded.Goals as goal
-
-pub returns : goal.returns
-returns c = record { loaded = loaded_writable }
