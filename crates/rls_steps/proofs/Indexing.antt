@@ -334,6 +334,13 @@ pub first_start : (rs : List Stretch) (ss : List ℕ) (i : ℕ) → ss ≡ start
 first_start [] ss i e = let n = ap (λ (ks : List ℕ). get_or ks 0 0) e in omega (arith, n)
 first_start (r ∷ rs) ss i e = let n = ap (λ (ks : List ℕ). get_or ks 0 0) e in omega (arith, n)
 
+-- a place among the starts is one among the runs, and what is read there is the run there
+pub start_within : (rs : List Stretch) (ss : List ℕ) (k : ℕ) → ss ≡ starts_of 0 rs → k < length ss → k < length rs
+start_within rs ss k e h = let long = ap length e ∙ starts_long 0 rs in omega (arith, long, h)
+
+pub stretch_there : (rs : List Stretch) (ss : List ℕ) (k : ℕ) (r : Stretch) → ss ≡ starts_of 0 rs → k < length ss → r ≡ get_or rs k r → slice_get rs k ≡ Some r
+stretch_there rs ss k r e h is = slice_get_read rs (length rs) k r refl (start_within rs ss k e h) is
+
 pub place_short : (rs : List Stretch) (ss : List ℕ) (i k : ℕ) (r : Stretch) → ss ≡ starts_of 0 rs → i < length (named rs) → k < length ss → get_or ss k 0 ≤ i → (k + 1 < length ss → i < get_or ss (k + 1) 0) → slice_get rs k ≡ Some r → i - get_or ss k 0 < r.len
 place_short rs ss i k r e w h low high g =
     let s = get_or ss k 0 in

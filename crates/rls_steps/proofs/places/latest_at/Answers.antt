@@ -1,9 +1,9 @@
-use Rattle.std.proofs.Common.{◌≡◌, ◌+◌, length, get_or, refl, sym, ap, ◌∙◌, subst, arith}
+use Rattle.std.proofs.Common.{◌≡◌, ◌+◌, length, get_or, sym, ap, ◌∙◌, subst, arith}
 use Rattle.std.specs.Prelude.{Some}
-use Rattle.std.proofs.lemmas.Option.{slice_get_read, slice_get-get_or}
+use Rattle.std.proofs.lemmas.Option.{slice_get-get_or}
 use Rattle.rls_steps.specs.NameRuns.{Stretch, named}
 use Rattle.rls_steps.specs.Bounds.{IsLatest}
-use Rattle.rls_steps.proofs.Indexing.{starts_long, some_starts, first_start}
+use Rattle.rls_steps.proofs.Indexing.{some_starts, first_start, start_within, stretch_there}
 use Rattle.rls_steps.proofs.LabelRuns.{run_latest}
 use Rattle.rls_steps.proofs.Bounded.{none_within}
 use Rattle.rls_steps.proofs.places.latest_at.Goals as goal
@@ -15,16 +15,10 @@ pub run_at-k-requires-clause-first : goal.run_at-k-requires-clause-first
 run_at-k-requires-clause-first c = first_start c.args.runs.now c.args.starts.now c.args.i c.requires.starts
 
 pub offset_bounds-runs-k : goal.offset_bounds-runs-k
-offset_bounds-runs-k c =
-    let long = ap length c.requires.starts ∙ starts_long 0 c.args.runs.now in
-    let h = c.run_at-k.ensures.within in
-    omega (arith, long, h)
+offset_bounds-runs-k c = omega (arith, start_within c.args.runs.now c.args.starts.now c.run_at-k.result c.requires.starts c.run_at-k.ensures.within)
 
 pub bounds-runs-k : goal.bounds-runs-k
-bounds-runs-k c =
-    let long = ap length c.requires.starts ∙ starts_long 0 c.args.runs.now in
-    let h = c.run_at-k.ensures.within in
-    omega (arith, long, h)
+bounds-runs-k c = omega (arith, start_within c.args.runs.now c.args.starts.now c.run_at-k.result c.requires.starts c.run_at-k.ensures.within)
 
 pub returns-then-high-span : goal.returns-then-high-span
 returns-then-high-span c =
@@ -35,9 +29,8 @@ returns-then-high-span c =
     let span = c.span_at-span.result in
     let low = c.labels-low.result.0 in
     let high = c.labels-low.result.1 in
-    let long = ap length c.requires.starts ∙ starts_long 0 rs in
     let h = c.run_at-k.ensures.within in
-    let g = slice_get_read rs (length rs) k r refl (omega (arith, long, h)) c.index-runs-k.is in
+    let g = stretch_there rs ss k r c.requires.starts h c.index-runs-k.is in
     let here : get_or ss k 0 ≡ c.args.i = omega (arith, c.if-starts-k.false) in
     let at = slice_get-get_or ss k 0 h ∙ ap Some here in
     let least = c.span_at-span.ensures.low in

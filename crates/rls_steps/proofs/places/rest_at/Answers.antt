@@ -1,11 +1,9 @@
-use Rattle.std.proofs.Common.{◌≡◌, ◌+◌, ◌-◌, ◌<◌, ℕ, List, length, get_or, refl, sym, ap, ◌∙◌, subst, arith}
-use Rattle.std.specs.Prelude.{slice_get, Some}
-use Rattle.std.proofs.lemmas.Option.{slice_get_read}
+use Rattle.std.proofs.Common.{◌≡◌, ◌+◌, ◌-◌, ◌<◌, ℕ, List, get_or, sym, ◌∙◌, subst, arith}
 use Rattle.rls_ident.proofs.Members.{some_is}
 use Rattle.rls_ident.specs.declared.tuple.Tuple.{Tuple}
 use Rattle.rls_ident.specs.Lists.{IsIn}
-use Rattle.rls_steps.specs.NameRuns.{Stretch, name_at, named, names_of}
-use Rattle.rls_steps.proofs.Indexing.{starts_long, some_starts, first_start, place_short, place_name, run_ends}
+use Rattle.rls_steps.specs.NameRuns.{name_at, names_of}
+use Rattle.rls_steps.proofs.Indexing.{some_starts, first_start, start_within, stretch_there, place_short, place_name, run_ends}
 use Rattle.rls_steps.proofs.Stretches.{name_in}
 use Rattle.rls_steps.proofs.places.rest_at.Goals as goal
 
@@ -16,43 +14,32 @@ pub run_at-k-requires-clause-first : goal.run_at-k-requires-clause-first
 run_at-k-requires-clause-first c = first_start c.args.runs.now c.args.starts.now c.args.i c.requires.starts
 
 pub offset_bounds-runs-k : goal.offset_bounds-runs-k
-offset_bounds-runs-k c =
-    let long = ap length c.requires.starts ∙ starts_long 0 c.args.runs.now in
-    let h = c.run_at-k.ensures.within in
-    omega (arith, long, h)
+offset_bounds-runs-k c = omega (arith, start_within c.args.runs.now c.args.starts.now c.run_at-k.result c.requires.starts c.run_at-k.ensures.within)
 
 pub bounds-runs-k : goal.bounds-runs-k
-bounds-runs-k c =
-    let long = ap length c.requires.starts ∙ starts_long 0 c.args.runs.now in
-    let h = c.run_at-k.ensures.within in
-    omega (arith, long, h)
+bounds-runs-k c = omega (arith, start_within c.args.runs.now c.args.starts.now c.run_at-k.result c.requires.starts c.run_at-k.ensures.within)
 
 pub overflow_sub-result-2 : goal.overflow_sub-result-2
 overflow_sub-result-2 c =
     let rs = c.args.runs.now in
-    let long = ap length c.requires.starts ∙ starts_long 0 rs in
     let h = c.run_at-k.ensures.within in
-    let g = slice_get_read rs (length rs) c.run_at-k.result c.index-runs-k.result refl (omega (arith, long, h)) c.index-runs-k.is in
+    let g = stretch_there rs c.args.starts.now c.run_at-k.result c.index-runs-k.result c.requires.starts h c.index-runs-k.is in
     let short = place_short rs c.args.starts.now c.args.i c.run_at-k.result c.index-runs-k.result c.requires.starts c.requires.place h c.run_at-k.ensures.below c.run_at-k.ensures.above g in
-    let size = c.len.ensures.len in
-    omega (arith, short, size)
+    omega (arith, short, c.len.ensures.len)
 
 pub returns-clause-some : goal.returns-clause-some
 returns-clause-some c =
     let rs = c.args.runs.now in
-    let long = ap length c.requires.starts ∙ starts_long 0 rs in
     let h = c.run_at-k.ensures.within in
-    let g = slice_get_read rs (length rs) c.run_at-k.result c.index-runs-k.result refl (omega (arith, long, h)) c.index-runs-k.is in
+    let g = stretch_there rs c.args.starts.now c.run_at-k.result c.index-runs-k.result c.requires.starts h c.index-runs-k.is in
     let short = place_short rs c.args.starts.now c.args.i c.run_at-k.result c.index-runs-k.result c.requires.starts c.requires.place h c.run_at-k.ensures.below c.run_at-k.ensures.above g in
-    let size = c.len.ensures.len in
-    omega (arith, short, size)
+    omega (arith, short, c.len.ensures.len)
 
 pub returns-clause-within : goal.returns-clause-within
 returns-clause-within c =
     let rs = c.args.runs.now in
-    let long = ap length c.requires.starts ∙ starts_long 0 rs in
     let h = c.run_at-k.ensures.within in
-    let g = slice_get_read rs (length rs) c.run_at-k.result c.index-runs-k.result refl (omega (arith, long, h)) c.index-runs-k.is in
+    let g = stretch_there rs c.args.starts.now c.run_at-k.result c.index-runs-k.result c.requires.starts h c.index-runs-k.is in
     let size = c.len.ensures.len in
     let some = c.len.ensures.some in
     let below = c.run_at-k.ensures.below in
@@ -66,9 +53,8 @@ returns-clause-labels c = λ j n less at.
     let ss = c.args.starts.now in
     let k = c.run_at-k.result in
     let r = c.index-runs-k.result in
-    let long = ap length c.requires.starts ∙ starts_long 0 rs in
     let h = c.run_at-k.ensures.within in
-    let g = slice_get_read rs (length rs) k r refl (omega (arith, long, h)) c.index-runs-k.is in
+    let g = stretch_there rs ss k r c.requires.starts h c.index-runs-k.is in
     let size = c.len.ensures.len in
     let below = c.run_at-k.ensures.below in
     let q : (c.args.i + j) - get_or ss k 0 < r.len = omega (arith, less, size, below) in
