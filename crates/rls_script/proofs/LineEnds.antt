@@ -1,9 +1,9 @@
 -- Lines and their ends, and the lines of a script one after another.
-use Rattle.std.proofs.Common.{◌≡◌, ℕ, suc, ◌+◌, ◌<◌, ◌≤◌, ltb, Bool, true, false, cond, List, [], ◌∷◌, ◌++◌, length, Option, Some, None, unwrap_or, Result, Ok, Err, refl, sym, ap, ◌∙◌, append_assoc, length-append, length-drop, eqb, arith}
+use Rattle.std.proofs.Common.{◌≡◌, ℕ, suc, ◌+◌, ◌<◌, ◌≤◌, ltb, Bool, true, false, cond, List, [], ◌∷◌, ◌++◌, length, Option, Some, None, unwrap_or, Result, Ok, Err, refl, sym, ap, ◌∙◌, append_assoc, length-append, length-drop, take, drop, eqb, arith}
 use Rattle.std.proofs.lemmas.Bool.{cond_both, ltb-false, eqb-false}
-use Rattle.std.proofs.lemmas.List.{append-nil}
+use Rattle.std.proofs.lemmas.List.{append-nil, take-append-drop, length-take-le}
 use Rattle.std.proofs.lemmas.List.Sums.{prefix_len-le-length}
-use Rattle.std.specs.List.{position_or_len, before_first, after_first}
+use Rattle.std.specs.List.{All, position_or_len, before_first, after_first}
 use Rattle.rls_script.specs.declared.lines.Line.{Line}
 use Rattle.rls_script.specs.Scripts.{is_line_feed, put_byte, script_lines, line_of, put_line, lines_from}
 
@@ -85,3 +85,17 @@ module _ (front : List Line) (bytes : List ℕ) (script : Result (List Line) ℕ
 pub is_whole : (front : List Line) (bytes : List ℕ) (script : Result (List Line) ℕ) → length bytes ≡ 0 → with_lines front (lines_from (length front + 1) (script_lines bytes)) ≡ script → script ≡ Ok front
 is_whole front [] script h so_far = sym so_far ∙ ap (λ (xs : List Line). Ok xs) (append-nil front)
 is_whole front (b ∷ bytes) script h so_far = absurd (omega (arith, h))
+
+none_then : (xs ys : List ℕ) → All (λ b. is_line_feed b ≡ false) xs → position_or_len is_line_feed (xs ++ ys) ≡ length xs + position_or_len is_line_feed ys
+none_then [] ys none = omega arith
+none_then (x ∷ xs) ys none =
+    let first : is_line_feed x ≡ false = none 0 x (omega arith) in
+    let others = none_then xs ys (λ k d lt. none (suc k) d (omega (arith, lt))) in
+    rw first (omega (arith, others))
+
+-- the first bytes have no line feed
+pub none_in_front : (n : ℕ) (bytes : List ℕ) → n ≤ length bytes → All (λ b. is_line_feed b ≡ false) (take n bytes) → position_or_len is_line_feed bytes ≡ n + position_or_len is_line_feed (drop n bytes)
+none_in_front n bytes le none =
+    ap (position_or_len is_line_feed) (sym (take-append-drop n bytes))
+    ∙ none_then (take n bytes) (drop n bytes) none
+    ∙ ap (λ m. m + position_or_len is_line_feed (drop n bytes)) (length-take-le n bytes le)

@@ -1,6 +1,6 @@
 //! Reading scripts.
 
-ghost use Rattle.std.specs.Prelude.{◌≡◌, ◌<◌, ◌≤◌, length, IfOk, IfSome, Option, Some, None, option_map};
+ghost use Rattle.std.specs.Prelude.{◌≡◌, ◌<◌, ◌≤◌, All, IsFalse, length, IfOk, IfSome, Option, Some, None, option_map};
 ghost use Rattle.std.specs.List.{position, position_or_len, before_first, after_first};
 ghost use Rattle.std.specs.Str.{chars};
 ghost use Rattle.rls_script.specs.Scripts.{IsParsed, script_of, is_line_feed, line_of, line_of_text, insertion_of, deletion_of, backward_of, renaming_of, is_space, parts_of, begins_plainly, number_of, number_up_to, text_of, is_opening, meaning_of};
@@ -63,7 +63,34 @@ pub fn parse(alloc: Global, script: &[u8]) -> Result<Lines, ScriptError>
 }
 
 /// The place of the first line feed, or the length.
+#[tactic(auto, using(crate::proofs::LineEnds::position_or_len_le, crate::proofs::LineEnds::none_in_front))]
 pub fn line_end(bytes: &[u8]) -> usize
+    ensures end { result ≡ position_or_len is_line_feed bytes.now }
+{
+    let (mut passed, mut rest) = (0, bytes);
+    while let Some((eight, others)) = rest.split_first_chunk::<8>() {
+        if has_line_feed(eight) {
+            break;
+        }
+        passed += eight.len();
+        rest = others;
+    }
+    passed + near_line_end(rest)
+}
+
+// Whether a line feed is among them. All are looked at, so that the machine compares them at once.
+fn has_line_feed(bytes: &[u8; 8]) -> bool
+    ensures none { IsFalse result → All (λ b. IsFalse (is_line_feed b)) bytes.now }
+{
+    let mut has = false;
+    for byte in bytes {
+        has |= *byte == b'\n';
+    }
+    has
+}
+
+// The place of the first line feed, or the length, found byte by byte.
+fn near_line_end(bytes: &[u8]) -> usize
     ensures end { result ≡ position_or_len is_line_feed bytes.now }
 {
     bytes

@@ -4,7 +4,7 @@ use Rattle.std.proofs.lemmas.Iterator.{YieldsList-from_slice}
 use Rattle.std.proofs.lemmas.Iterator.Search.{position_from_yields_List}
 use Rattle.rls_script.specs.Scripts.{is_line_feed}
 use Rattle.rls_script.proofs.LineEnds.{found_or_len}
-use Rattle.rls_script.proofs.parsing.line_end.Goals as goal
+use Rattle.rls_script.proofs.parsing.near_line_end.Goals as goal
 
 pub returns : goal.returns
 returns c =
