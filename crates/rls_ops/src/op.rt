@@ -41,6 +41,7 @@ pub struct Op {
 
 // Written out, and not derived, so that the proof of a caller sees one call and not the drop of each field.
 impl Drop for Op {
+    #[inline(always)]
     fn drop(self) {
         let Op {
             author: _,

@@ -93,9 +93,11 @@ pub fn runs_len(runs: &[Run]) -> u64
 fn chars_len(chars: &[char]) -> u64
     ensures size { result ≡ min (sum_by char_size chars.now) (2 ^ 64 - 1) }
 {
-    let mut total: u64 = 0;
+    let mut total = chars.len() as u64;
     for c in chars {
-        total += c.len_utf8() as u64;
+        if !c.is_ascii() {
+            total += c.len_utf8() as u64 - 1;
+        }
     }
     total
 }
