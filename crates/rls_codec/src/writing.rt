@@ -12,7 +12,7 @@ ghost use Rattle.rls_codec.specs.CodecLaws.{IsMessage};
 
 use crate::lists::{Part, put_list};
 use crate::puts::{
-    put_byte, put_ident, put_name, put_runs, put_text, put_u32, put_u64, put_vector,
+    put_byte, put_ident, put_name, put_pair, put_runs, put_text, put_u32, put_u64, put_vector,
 };
 use rls_ident::Vector;
 use rls_ops::{Body, Message, Op, Ops};
@@ -60,8 +60,7 @@ pub fn put_op(out: &mut Vec<u8>, op: &Op) -> Result<(), AllocError>
     ensures fits { OnOk result (IsSpelledIfFit op.now) }
     ensures fields { OnOk result (IsBody op.now.body → FieldsFit (length op.now.context) op.now) }
 {
-    put_u32(out, op.author)?;
-    put_u32(out, op.seq)?;
+    put_pair(out, op.author, op.seq)?;
     put_vector(out, &op.context)?;
     put_name(out, op.epoch)?;
     put_body(out, &op.body)?;
