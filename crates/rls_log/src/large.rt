@@ -1,6 +1,6 @@
 //! Large deletions, kept as values beside their bytes.
 
-ghost use Rattle.std.specs.Prelude.{◌≡◌, ℕ, List, Option, Ok, true, not, nat_lt, IfOk, IfErr, IfSome, OnOk, OnErr};
+ghost use Rattle.std.specs.Prelude.{◌≡◌, ℕ, List, Option, Some, Ok, true, not, nat_lt, IfOk, IfErr, IfSome, OnOk, OnErr};
 ghost use Rattle.std.specs.List.{filter};
 ghost use Rattle.rls_ops.specs.declared.op.Op.{Op as OpSeen};
 ghost use Rattle.rls_codec.specs.Gives.{Fails};
@@ -43,6 +43,17 @@ pub(crate) fn keep_large(
     if !is_large(entry.head.kind, entry.len as u64) {
         return Ok(());
     }
+    keep_copy(values, entry, op)?;
+    Ok(())
+}
+
+// Keeps a copy of the operation of an entry as a value. After an error all is as before. It stands apart, so that an operation of which
+// none is kept makes no place for it.
+#[inline(never)]
+fn keep_copy(values: &mut Vec<LargeDeletion>, entry: Entry, op: &Op) -> Result<(), AllocError>
+    ensures ok { OnOk result (values.new.items ≡ with_value values.old.items entry (Some op.now)) }
+    ensures err { OnErr result (values.new.items ≡ values.old.items) }
+{
     let op = op.copy()?;
     values.push(LargeDeletion { entry, op })?;
     Ok(())
