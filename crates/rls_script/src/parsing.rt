@@ -129,16 +129,12 @@ pub fn line_of(alloc: Global, text: &str) -> Result<Option<Line>, AllocError>
     let Some((word, others)) = parts(text) else {
         return Ok(renaming(text));
     };
-    if word == "i" {
-        return insertion(alloc, others);
+    match word.as_bytes() {
+        [b'i'] => insertion(alloc, others),
+        [b'd'] => Ok(deletion(others)),
+        [b'b'] => Ok(backward(others)),
+        _ => Ok(None),
     }
-    if word == "d" {
-        return Ok(deletion(others));
-    }
-    if word == "b" {
-        return Ok(backward(others));
-    }
-    Ok(None)
 }
 
 // The insertion of these parts.
