@@ -59,29 +59,7 @@ impl Tuple {
     pub fn same(&self, other: &Tuple) -> bool
         ensures same { result ≡ tuple_eq self.now other.now }
     {
-        match (self, other) {
-            (
-                Tuple::At {
-                    pos,
-                    replica,
-                    seq,
-                    offset,
-                },
-                Tuple::At {
-                    pos: other_pos,
-                    replica: other_replica,
-                    seq: other_seq,
-                    offset: other_offset,
-                },
-            ) => {
-                pos == other_pos
-                    && replica == other_replica
-                    && seq == other_seq
-                    && offset == other_offset
-            }
-            (Tuple::Low, Tuple::Low) | (Tuple::High, Tuple::High) => true,
-            _ => false,
-        }
+        self == other
     }
 
     /// Whether it may stand before another tuple: it is no `At`, or its offset is from
