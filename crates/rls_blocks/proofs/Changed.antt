@@ -36,23 +36,10 @@ pub sound_of : (left right : Tree) (own : Piece) (front end sum count high : ℕ
     → front ≡ length (entries_of left.blocks) → end ≡ front + length own.1 → sum ≡ end + length (entries_of right.blocks) → count ≡ length left.blocks + length right.blocks + 1 → high ≡ max left.height right.height + 1
     → IsSound left right own front end sum count high
 sound_of left right own front end sum count high p l r low_left low_right le ge f e t c h =
-    let low = make_low left.height right.height (length left.blocks) (length right.blocks) low_left low_right le ge in
-    record {
-      own_is = p;
-      left_are = l;
-      right_are = r;
-      front_is = f;
-      end_is = e;
-      sum_is = t;
-      count_is = c;
-      count_most = omega (arith, c, f, e, t, piece_some own p, count_most left.blocks l, count_most right.blocks r);
-      height_is = h;
-      left_not_higher = le;
-      right_not_higher = ge;
-      left_low = low_left;
-      right_low = low_right;
-      low = subst (λ k. IsLow k count) (sym h) (subst (λ k. IsLow (max left.height right.height + 1) k) (sym c) low);
-    }
+    let lower = make_low left.height right.height (length left.blocks) (length right.blocks) low_left low_right le ge in
+    let low : IsLow high count = subst (λ k. IsLow k count) (sym h) (subst (λ k. IsLow (max left.height right.height + 1) k) (sym c) lower) in
+    let most : count ≤ sum = omega (arith, c, f, e, t, piece_some own p, count_most left.blocks l, count_most right.blocks r) in
+    assumption
 
 -- its numbers, after a change in its block or in one of its sides
 pub sound_again : (left right new_left new_right : Tree) (own new_own : Piece) (front end sum new_front new_end new_sum count high : ℕ) → IsSound left right own front end sum count high
