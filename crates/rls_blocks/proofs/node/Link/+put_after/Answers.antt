@@ -1,4 +1,4 @@
-use Rattle.std.proofs.Common.{◌+◌, ◌-◌, ◌≤◌, ◌∷◌, ◌++◌, length, ap, ◌∙◌, arith}
+use Rattle.std.proofs.Common.{◌+◌, ◌-◌, ◌∷◌, ◌++◌, length, ap, ◌∙◌, arith}
 use Rattle.std.proofs.lemmas.Result.{on_ok_weaker}
 use Rattle.rls_blocks.specs.Trees.{entries_of}
 use Rattle.rls_blocks.proofs.Pieces.{piece_some, count_most}
@@ -27,13 +27,8 @@ put_left-invariant_of-inner t c =
     let s = c.inner.inside in
     let v = c.inner.invariant in
     let e = c.put_after-done.ensures in
-    let fits : c.put_after-done.new.self.height ≤ s.right.height + 1 =
-    elim c.then-high-inner.branch [
-      | put_left-then-high-inner-via-then-high-inner w ↦ omega (arith, w.if-high-inner.true, c.height-high.ensures.height, v.height_is, v.left_not_higher, v.right_not_higher)
-      | put_left-then-high-inner-via-else-high-inner+then-high-height w ↦ omega (arith, w.if-high-height.true, w.height.ensures.height, c.height-high.ensures.height)
-    ] in
     sound_of c.put_after-done.new.self s.right s.block c.chars-inner-inside.result (c.chars-inner-inside.result + (s.end - s.front)) (c.chars-inner-inside.result + (s.end - s.front) + (s.chars - s.end)) (s.blocks - c.blocks-2.result + c.blocks-then-high-inner.result) c.max-inner-inside.result
-    v.own_is c.chars-inner-inside.ensures.pieces v.right_are c.height-high.ensures.low v.right_low fits (omega (arith, v.right_not_higher, e.not_lower)) c.chars-inner-inside.ensures.chars (omega (arith, v.end_is)) (omega (arith, v.sum_is)) (omega (arith, v.count_is, c.blocks-2.ensures.blocks, c.blocks-then-high-inner.ensures.blocks)) (omega (arith, c.max-inner-inside.ensures, c.height-high.ensures.height, v.height_is, e.not_lower))
+    v.own_is c.chars-inner-inside.ensures.pieces v.right_are c.height-high.ensures.low v.right_low (elim c.then-high-inner.branch [ put_left-then-high-inner-via-then-high-inner w ↦ omega (arith, w.if-high-inner.true, c.height-high.ensures.height, v.height_is, v.left_not_higher, v.right_not_higher) | put_left-then-high-inner-via-else-high-inner+then-high-height w ↦ omega (arith, w.if-high-height.true, w.height.ensures.height, c.height-high.ensures.height) ]) (omega (arith, v.right_not_higher, e.not_lower)) c.chars-inner-inside.ensures.chars (omega (arith, v.end_is)) (omega (arith, v.sum_is)) (omega (arith, v.count_is, c.blocks-2.ensures.blocks, c.blocks-then-high-inner.ensures.blocks)) (omega (arith, c.max-inner-inside.ensures, c.height-high.ensures.height, v.height_is, e.not_lower))
 
 pub put_left-returns-then-high-inner-clause-ok : goal.put_left-returns-then-high-inner-clause-ok
 put_left-returns-then-high-inner-clause-ok t c = on_ok_weaker c.put_after-done.result (λ e. c.to.ensures.blocks ∙ put_left c.inner.inside c.inner.invariant c.args.node.value (c.inner.view_is ∙ c.deref_mut-inner.ensures.value) c.args.new c.args.i c.put_after-done.new.self.blocks c.requires.place e) c.put_after-done.ensures.ok
@@ -63,13 +58,8 @@ put_right-invariant_of-inner t c =
     let s = c.inner.inside in
     let v = c.inner.invariant in
     let e = c.put_after-done.ensures in
-    let fits : c.put_after-done.new.self.height ≤ s.left.height + 1 =
-    elim c.then-high-inner.branch [
-      | put_right-then-high-inner-via-then-high-inner w ↦ omega (arith, w.if-high-inner.true, c.height-high.ensures.height, v.height_is, v.left_not_higher, v.right_not_higher)
-      | put_right-then-high-inner-via-else-high-inner+then-high-height w ↦ omega (arith, w.if-high-height.true, w.height.ensures.height, c.height-high.ensures.height)
-    ] in
     sound_of s.left c.put_after-done.new.self s.block s.front s.end (s.end + c.chars.result) (s.blocks - c.blocks-2.result + c.blocks-then-high-inner.result) c.max-inner-inside.result
-    v.own_is v.left_are c.chars.ensures.pieces v.left_low c.height-high.ensures.low (omega (arith, v.left_not_higher, e.not_lower)) fits v.front_is v.end_is (omega (arith, c.chars.ensures.chars)) (omega (arith, v.count_is, c.blocks-2.ensures.blocks, c.blocks-then-high-inner.ensures.blocks)) (omega (arith, c.max-inner-inside.ensures, c.height-high.ensures.height, v.height_is, e.not_lower))
+    v.own_is v.left_are c.chars.ensures.pieces v.left_low c.height-high.ensures.low (omega (arith, v.left_not_higher, e.not_lower)) (elim c.then-high-inner.branch [ put_right-then-high-inner-via-then-high-inner w ↦ omega (arith, w.if-high-inner.true, c.height-high.ensures.height, v.height_is, v.left_not_higher, v.right_not_higher) | put_right-then-high-inner-via-else-high-inner+then-high-height w ↦ omega (arith, w.if-high-height.true, w.height.ensures.height, c.height-high.ensures.height) ]) v.front_is v.end_is (omega (arith, c.chars.ensures.chars)) (omega (arith, v.count_is, c.blocks-2.ensures.blocks, c.blocks-then-high-inner.ensures.blocks)) (omega (arith, c.max-inner-inside.ensures, c.height-high.ensures.height, v.height_is, e.not_lower))
 
 pub put_right-returns-then-high-inner-clause-ok : goal.put_right-returns-then-high-inner-clause-ok
 put_right-returns-then-high-inner-clause-ok t c = on_ok_weaker c.put_after-done.result (λ e. c.to.ensures.blocks ∙ put_right c.inner.inside c.inner.invariant c.args.node.value (c.inner.view_is ∙ c.deref_mut-inner.ensures.value) c.args.new c.args.i c.put_after-done.new.self.blocks (c.args.i - c.inner.inside.end) (omega (arith, c.requires.behind, node_end c.inner.inside c.inner.invariant c.args.node.value (c.inner.view_is ∙ c.deref_mut-inner.ensures.value))) e) c.put_after-done.ensures.ok
