@@ -31,9 +31,27 @@ pub fn remove_range(alloc: Global, link: Link, i: u64, count: u64) -> Result<Lin
     ensures err { IfErr result (λ old. old.blocks ≡ link.blocks) }
 {
     rely!(let _chars = link.chars());
-    match shortening(&link, i, count) {
-        Some(change) => link.with_change(i, change),
-        None => remove_blocks(alloc, link, i, count),
+    if let Some(change) = shortening(&link, i, count) {
+        return link.with_change(i, change);
+    }
+    match split(link, i + count) {
+        Halves::Between(near, behind) => match split(near, i) {
+            Halves::Between(front, gone) => close_gap(front, gone, behind),
+            Halves::Within(front, first, at, gone) => remove_back(front, first, at, gone, behind),
+        },
+        Halves::Within(near, last, end, behind) => {
+            let before = near.chars();
+            if i > before {
+                let at = (i - before) as u32;
+                return remove_middle(alloc, near, last, at, end, behind);
+            }
+            match split(near, i) {
+                Halves::Between(front, gone) => remove_front(front, gone, last, end, behind),
+                Halves::Within(front, first, at, gone) => {
+                    remove_ends(front, first, at, gone, last, end, behind)
+                }
+            }
+        }
     }
 }
 
@@ -56,36 +74,6 @@ fn shortening(link: &Link, i: u64, count: u64) -> Option<Change<'static>>
         return Some(Change::KeepFront(at));
     }
     None
-}
-
-// Takes characters out where blocks go, or where one is cut in two.
-fn remove_blocks(alloc: Global, link: Link, i: u64, count: u64) -> Result<Link, Link>
-    requires some { 0 < count }
-    requires within { i + count ≤ length (entries_of link.blocks) }
-    requires apart { IsTrue (are_apart None (runs_in link.blocks)) }
-    ensures ok { IfOk result (λ new. Shows (removed i count (entries_of link.blocks)) new.blocks) }
-    ensures err { IfErr result (λ old. old.blocks ≡ link.blocks) }
-{
-    rely!(let _chars = link.chars());
-    match split(link, i + count) {
-        Halves::Between(near, behind) => match split(near, i) {
-            Halves::Between(front, gone) => close_gap(front, gone, behind),
-            Halves::Within(front, first, at, gone) => remove_back(front, first, at, gone, behind),
-        },
-        Halves::Within(near, last, end, behind) => {
-            let before = near.chars();
-            if i > before {
-                let at = (i - before) as u32;
-                return remove_middle(alloc, near, last, at, end, behind);
-            }
-            match split(near, i) {
-                Halves::Between(front, gone) => remove_front(front, gone, last, end, behind),
-                Halves::Within(front, first, at, gone) => {
-                    remove_ends(front, first, at, gone, last, end, behind)
-                }
-            }
-        }
-    }
 }
 
 // Whole blocks. What stood on their sides may touch then.
