@@ -11,10 +11,11 @@ use Rattle.rls_rename.proofs.SameNodes.{path_top}
 use Rattle.rls_epoch.specs.declared.jumps.Jump.{Jump}
 use Rattle.rls_epoch.specs.declared.placed.Placed.{Placed}
 pub use Rattle.rls_epoch.specs.Jumps.{depth_at, IsUpFrom, AreLevel, depth_in, target_in, reach, jump_over, IsLow, AreLow, IsJump, AreJumps, depth_given, target_given}
+use Rattle.rls_epoch.specs.declared.climb.Climb.{Climb}
 use Rattle.rls_epoch.specs.Links.{epoch_at, up_at}
 use Rattle.rls_epoch.specs.Seen.{AreLaid, node_of, nodes_of}
 use Rattle.rls_epoch.proofs.Laid.{nodes_last}
-use Rattle.rls_epoch.proofs.Meeting.{path_up}
+use Rattle.rls_epoch.proofs.Meeting.{IsAbove, above_more, path_up}
 use Rattle.rls_epoch.proofs.Opened.{apart}
 use Rattle.rls_epoch.proofs.Reading.{up_read}
 use Rattle.rls_epoch.proofs.Spreading.{number_kept}
@@ -27,6 +28,10 @@ up_self top ps n = ([], sym (append-nil (path (nodes_of ps) (epoch_at top ps n))
 
 pub up_again : (top : EpochName) (ps : List Placed) (n m h : ℕ) → IsUpFrom top ps n m → IsUpFrom top ps m h → IsUpFrom top ps n h
 up_again top ps n m h a b = (b.0 ++ a.0, a.1 ∙ (ap (λ z. z ++ a.0) b.1 ∙ append_assoc (path (nodes_of ps) (epoch_at top ps h)) b.0 a.0))
+
+-- one step up from an epoch further up
+pub above_again : (top : EpochName) (ps : List Placed) → AreLaid top ps → (n m : ℕ) (e d : Climb) → IsAbove top ps (epoch_at top ps n) e → IsUpFrom top ps e.at m → 0 < m → m ≤ length ps → d.at ≡ up_at ps (m - 1) → d.below ≡ Some (m - 1) → IsAbove top ps (epoch_at top ps n) d
+above_again top ps l n m e d i j h w a b = above_more top ps l n m d h w a b (up_again top ps n e.at m (i.0, i.1) j)
 
 -- what lies further up isn't deeper
 pub up_depth : (top : EpochName) (ps : List Placed) (n m : ℕ) → IsUpFrom top ps n m → depth_at top ps m ≤ depth_at top ps n

@@ -1,24 +1,15 @@
-use Rattle.std.proofs.Common.{◌≤◌, length, arith}
-use Rattle.rls_epoch.proofs.Jumping.{up_again}
-use Rattle.rls_epoch.proofs.Meeting.{above_more}
+use Rattle.std.proofs.Common.{arith}
+use Rattle.rls_epoch.proofs.Jumping.{above_again}
 use Rattle.rls_epoch.proofs.nodes.Nodes.climb_both.Goals as goal
 
 pub returns-clause-left : goal.returns-clause-left
 returns-clause-left c =
-    let top = c.args.self.now.top in
-    let ps = c.args.self.now.placed in
     let x = c.siblings_above-x in
-    let s = c.climb_to-left.ensures.above in
-    let w : x.result.0 ≤ length ps = let u = x.ensures.within in let v = c.climb_to-left.ensures.within in omega (arith, u, v) in
-    above_more top ps c.count-count.ensures.laid c.args.a x.result.0 c.climbed.result x.ensures.some w (rw c.starting_at.ensures.start at c.climbed.ensures.at) (rw c.starting_at.ensures.start at c.climbed.ensures.below)
-    (up_again top ps c.args.a c.climb_to-left.result.at x.result.0 (s.0, s.1) x.ensures.left)
+    above_again _ _ c.count-count.ensures.laid c.args.a x.result.0 c.climb_to-left.result c.climbed.result c.climb_to-left.ensures.above x.ensures.left x.ensures.some (omega (arith, x.ensures.within, c.climb_to-left.ensures.within))
+    (rw c.starting_at.ensures.start at c.climbed.ensures.at) (rw c.starting_at.ensures.start at c.climbed.ensures.below)
 
 pub returns-clause-right : goal.returns-clause-right
 returns-clause-right c =
-    let top = c.args.self.now.top in
-    let ps = c.args.self.now.placed in
     let x = c.siblings_above-x in
-    let s = c.climb_to-right.ensures.above in
-    let w : x.result.1 ≤ length ps = let u = x.ensures.other_within in let v = c.climb_to-right.ensures.within in omega (arith, u, v) in
-    above_more top ps c.count-count.ensures.laid c.args.b x.result.1 c.climbed-2.result x.ensures.other_some w (rw c.starting_at-2.ensures.start at c.climbed-2.ensures.at) (rw c.starting_at-2.ensures.start at c.climbed-2.ensures.below)
-    (up_again top ps c.args.b c.climb_to-right.result.at x.result.1 (s.0, s.1) x.ensures.right)
+    above_again _ _ c.count-count.ensures.laid c.args.b x.result.1 c.climb_to-right.result c.climbed-2.result c.climb_to-right.ensures.above x.ensures.right x.ensures.other_some (omega (arith, x.ensures.other_within, c.climb_to-right.ensures.within))
+    (rw c.starting_at-2.ensures.start at c.climbed-2.ensures.at) (rw c.starting_at-2.ensures.start at c.climbed-2.ensures.below)
