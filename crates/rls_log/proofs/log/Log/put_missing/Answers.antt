@@ -17,15 +17,10 @@ loop-i-preserved-then-is_covered c =
 
 pub loop-i-preserved : goal.loop-i-preserved
 loop-i-preserved c =
-    let v = c.args.vector.now in
-    let os = c.args.self.now in
-    let i = c.loop-i.i in
     let h = c.head.ensures.head in
-    let out = c.args.out.now.items in
-    let so_far = missing_for v (take i os) in
+    let so_far = missing_for c.args.vector.now (take c.loop-i.i c.args.self.now) in
     c.in_ok-extend_from_slice.ensures.items ∙ ap (λ (w : List ℕ). c.loop-i.out.items ++ w) (c.part.ensures.part h.0 h.1) ∙ ap (λ (w : List ℕ). w ++ op_bytes h.0) c.loop-i.invariant
-    ∙ append_assoc out (flat_map op_bytes so_far) (op_bytes h.0)
-    ∙ ap (λ (w : List ℕ). out ++ w) (sym (flat_pushed so_far h.0) ∙ ap (flat_map op_bytes) (sym (taken_uncovered v os i h.0 h.1 (sym (c.is_covered.ensures.covered h.0 h.2) ∙ c.if-is_covered.false))))
+    ∙ append_assoc c.args.out.now.items (flat_map op_bytes so_far) (op_bytes h.0) ∙ ap (λ (w : List ℕ). c.args.out.now.items ++ w) (sym (flat_pushed so_far h.0) ∙ ap (flat_map op_bytes) (sym (taken_uncovered c.args.vector.now c.args.self.now c.loop-i.i h.0 h.1 (sym (c.is_covered.ensures.covered h.0 h.2) ∙ c.if-is_covered.false))))
 
 pub returns : goal.returns
 returns c =

@@ -43,15 +43,12 @@ returns-then-size-limit-clause-reach c =
 
 pub loop-i-preserved : goal.loop-i-preserved
 loop-i-preserved c =
-    let v = c.args.vector.now in
-    let os = c.args.self.now in
-    let i = c.loop-i.i in
     let h = c.head.ensures.head in
     let size = part_size h.0 c.part.result.now (c.part.ensures.part h.0 h.1) in
     record {
       within = omega (arith, c.if-size-limit.false, c.loop-i.invariant.within);
-      total = ap (λ n. missing_for v (take (i + 1) os) ++ front_within (c.loop-i.used + n) c.args.limit (missing_for v (drop (i + 1) os))) size
-          ∙ front_more v os i c.loop-i.used c.args.limit h.0 h.1 (sym (c.is_covered.ensures.covered h.0 h.2) ∙ c.if-is_covered.false) (omega (arith, size, c.if-size-limit.false, c.loop-i.invariant.within)) ∙ c.loop-i.invariant.total;
+      total = ap (λ n. missing_for c.args.vector.now (take (c.loop-i.i + 1) c.args.self.now) ++ front_within (c.loop-i.used + n) c.args.limit (missing_for c.args.vector.now (drop (c.loop-i.i + 1) c.args.self.now))) size
+          ∙ front_more c.args.vector.now c.args.self.now c.loop-i.i c.loop-i.used c.args.limit h.0 h.1 (sym (c.is_covered.ensures.covered h.0 h.2) ∙ c.if-is_covered.false) (omega (arith, size, c.if-size-limit.false, c.loop-i.invariant.within)) ∙ c.loop-i.invariant.total;
     }
 
 pub returns-clause-reach : goal.returns-clause-reach
