@@ -9,7 +9,8 @@ ghost use Rattle.rls_ops.specs.Sizes.{op_size};
 ghost use Rattle.rls_ops.specs.Spelling.{op_bytes};
 ghost use Rattle.rls_log.specs.Heads.{IsHeadOf};
 ghost use Rattle.rls_log.specs.Fitting.{AreFit};
-ghost use Rattle.rls_log.specs.Encoded.{SpellOne, op_spelled};
+ghost use Rattle.rls_log.specs.Encoded.{AreEntries, SpellOne, op_spelled, ops_in};
+ghost use Rattle.rls_log.specs.Large.{AreLarge};
 
 use crate::context::is_context_at_most;
 use crate::entry::{Entry, start_of};
@@ -62,6 +63,26 @@ impl Log {
             values: Vec::new(alloc),
             latest: Latest::new(alloc),
         }
+    }
+
+    // The operations of these entries of these bytes.
+    pub(crate) fn of_entries(
+        alloc: Global,
+        bytes: Vec<u8>,
+        entries: Vec<Entry>,
+        values: Vec<LargeDeletion>,
+    ) -> Result<Log, AllocError>
+        requires entries { AreEntries bytes.items entries.items }
+        requires values { AreLarge bytes.items values.items }
+        ensures ops { IfOk result (λ log. log ≡ ops_in bytes.items entries.items) }
+    {
+        let latest = Latest::of(alloc, &entries)?;
+        Ok(Log {
+            bytes,
+            entries,
+            values,
+            latest,
+        })
     }
 
     /// Puts a copy of an operation after the last one. It costs what spelling it costs. After an error all is as before; an operation of
@@ -202,13 +223,8 @@ impl Log {
             keep_value(&mut values, moved, copy_of_value(&self.values, entry)?)?;
             entries.push(moved)?;
         }
-        let latest = Latest::of(alloc, &entries)?;
-        Ok(Log {
-            bytes,
-            entries,
-            values,
-            latest,
-        })
+        let log = Log::of_entries(alloc, bytes, entries, values)?;
+        Ok(log)
     }
 
     // Whether most of the bytes are of no operation any more.

@@ -8,7 +8,6 @@ ghost use Rattle.rls_log.specs.Large.{AreLargeWithin};
 
 use crate::entry::Entry;
 use crate::large::{LargeDeletion, read_large};
-use crate::latest::Latest;
 use crate::log::Log;
 use crate::scanning::scan_op;
 use rls_codec::{ReadError, u32_at};
@@ -90,13 +89,8 @@ fn log_of(
     let Entries { entries, values } = found;
     let (front, _) = bytes.split_at(bytes.len() - rest.len());
     let bytes = Vec::from_slice(alloc, front)?;
-    let latest = Latest::of(alloc, &entries)?;
-    Ok(Log {
-        bytes,
-        entries,
-        values,
-        latest,
-    })
+    let log = Log::of_entries(alloc, bytes, entries, values)?;
+    Ok(log)
 }
 
 /// A number of operations, and the operations among this many members, which stay the bytes that they are. Each has at most

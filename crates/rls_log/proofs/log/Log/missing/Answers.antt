@@ -9,7 +9,6 @@ use Rattle.rls_log.specs.declared.entry.Entry.{Entry}
 use Rattle.rls_log.specs.Encoded.{part_of, op_in, IsEntry, AreEntries, ops_in}
 use Rattle.rls_log.specs.declared.large.LargeDeletion.{LargeDeletion}
 use Rattle.rls_log.specs.Large.{IsLarge, AreLarge}
-use Rattle.rls_log.specs.Latest.{Bounds}
 use Rattle.rls_log.proofs.Entries.{copied, covers, at_place, entry_at_place}
 use Rattle.rls_log.proofs.Larges.{copied_is, value_put, values_after}
 use Rattle.rls_log.proofs.Steps.{taken_covered, taken_uncovered}
@@ -24,15 +23,12 @@ loop-i-init c = record {
 
 pub loop-i-preserved-then-is_covered : goal.loop-i-preserved-then-is_covered
 loop-i-preserved-then-is_covered c =
-    let v = c.args.vector.now in
     let bytes = c.self.inside.bytes.items in
     let es = c.self.inside.entries.items in
-    let i = c.loop-i.i in
-    let e = c.index-entry.result.now in
-    let lt : i < length es = omega (arith, c.loop-i-test.true, c.len-i-end.ensures, c.self.inside.entries.ok.0) in
-    let got : slice_get es i ≡ Some e = slice_get_read es (length es) i e refl lt c.index-entry.ensures in
-    let test : is_covered v (op_in bytes e) ≡ _ = sym (covers bytes v e (entry_at_place bytes es i e got c.self.invariant.entries)) ∙ sym c.is_covered.ensures.test ∙ c.if-is_covered.true in
-    record { entries = c.loop-i.invariant.entries; values = c.loop-i.invariant.values; missing = c.loop-i.invariant.missing ∙ sym (taken_covered v (ops_in bytes es) i (op_in bytes e) (at_place bytes es i e got) test) }
+    let lt : c.loop-i.i < length es = omega (arith, c.loop-i-test.true, c.len-i-end.ensures, c.self.inside.entries.ok.0) in
+    let got : slice_get es c.loop-i.i ≡ Some c.index-entry.result.now = slice_get_read es (length es) c.loop-i.i c.index-entry.result.now refl lt c.index-entry.ensures in
+    let test = sym (covers bytes c.args.vector.now c.index-entry.result.now (entry_at_place bytes es c.loop-i.i c.index-entry.result.now got c.self.invariant.entries)) ∙ sym c.is_covered.ensures.test ∙ c.if-is_covered.true in
+    record { entries = c.loop-i.invariant.entries; values = c.loop-i.invariant.values; missing = c.loop-i.invariant.missing ∙ sym (taken_covered c.args.vector.now (ops_in bytes es) c.loop-i.i (op_in bytes c.index-entry.result.now) (at_place bytes es c.loop-i.i c.index-entry.result.now got) test) }
 
 cons_is : (o p : Op) → o ∷ [] ≡ p ∷ [] → o ≡ p
 cons_is o p e = cc
@@ -63,15 +59,8 @@ loop-i-preserved c =
       missing = p.1 ∙ ap (λ (os : List Op). os ++ op_in bytes e ∷ []) c.loop-i.invariant.missing ∙ sym (taken_uncovered v (ops_in bytes es) i (op_in bytes e) (at_place bytes es i e got) test);
     }
 
-pub invariant_of-result : goal.invariant_of-result
-invariant_of-result c = record {
-  entries = c.loop-i.invariant.entries;
-  values = c.loop-i.invariant.values;
-  latest = subst (λ (es : List Entry). AreEntries c.loop-i.bytes.items es → Bounds c.in_ok-latest.latest (ops_in c.loop-i.bytes.items es)) c.deref-2.ensures.value (c.in_ok-latest.ensures.bounds c.loop-i.bytes.items) c.loop-i.invariant.entries;
-}
-
 pub returns : goal.returns
 returns c =
     let os = ops_in c.self.inside.bytes.items c.self.inside.entries.items in
     let all : take c.loop-i.i os ≡ os = take_all c.loop-i.i os (omega (arith, length-map c.self.inside.entries.items (op_in c.self.inside.bytes.items), c.loop-i-test.false, c.len-i-end.ensures, c.self.inside.entries.ok.0)) in
-    record { missing = c.loop-i.invariant.missing ∙ ap (missing_for c.args.vector.now) (all ∙ c.self.view_is) }
+    record { missing = c.in_ok-log.ensures.ops ∙ c.loop-i.invariant.missing ∙ ap (missing_for c.args.vector.now) (all ∙ c.self.view_is) }
