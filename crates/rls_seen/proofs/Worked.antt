@@ -60,17 +60,11 @@ deleted : text_over (edited hello (Delete 1 3)) ≡ codes "ho"
 unfolding computing
 deleted = refl
 
-past_the_end : edit_fault_over hello (Delete 3 3) ≡ Some (edit_errors.Range 3 5)
+-- an end past the text, a rename without text, and an edit of one who has left
+refused : (edit_fault_over hello (Delete 3 3) ≡ Some (edit_errors.Range 3 5)) × (edit_fault_over first Rename ≡ Some edit_errors.EmptyDocument)
+    × (edit_fault_over (edited first Leave) (Insert 0 (codes "x")) ≡ Some edit_errors.Left)
 unfolding computing
-past_the_end = refl
-
-no_text : edit_fault_over first Rename ≡ Some edit_errors.EmptyDocument
-unfolding computing
-no_text = refl
-
-gone : edit_fault_over (edited first Leave) (Insert 0 (codes "x")) ≡ Some edit_errors.Left
-unfolding computing
-gone = refl
+refused = (refl, refl, refl)
 
 -- ---- receiving
 
