@@ -1,7 +1,7 @@
 use Rattle.std.proofs.Common.{length, ap, ◌∙◌, arith}
 use Rattle.rls_blocks.specs.Trees.{Piece, entries_of}
 use Rattle.rls_blocks.proofs.Pieces.{node_length, piece_some, count_most}
-use Rattle.rls_blocks.proofs.Low.{make_low}
+use Rattle.rls_blocks.proofs.Changed.{sound_of}
 use Rattle.rls_blocks.proofs.node.opened.Opened.close.Goals as goal
 
 pub overflow_add-inner-3 : goal.overflow_add-inner-3
@@ -12,23 +12,7 @@ overflow_add-inner-3 c =
 pub invariant_of-inner : goal.invariant_of-inner
 invariant_of-inner c =
     let s = c.args.self in
-    let low = make_low s.left.height s.right.height (length s.left.blocks) (length s.right.blocks) s.left_low s.right_low s.left_not_higher s.right_not_higher in
-    record {
-      own_is = c.inner.invariant.own_is;
-      left_are = s.left_are;
-      right_are = s.right_are;
-      front_is = s.front_is;
-      end_is = omega arith;
-      sum_is = omega arith;
-      count_is = omega arith;
-      count_most = omega (arith, piece_some c.inner.inside.block c.inner.invariant.own_is, count_most s.left.blocks s.left_are, count_most s.right.blocks s.right_are);
-      height_is = s.height_is;
-      left_not_higher = s.left_not_higher;
-      right_not_higher = s.right_not_higher;
-      left_low = s.left_low;
-      right_low = s.right_low;
-      low = rw (s.height_is, s.blocks_is) low;
-    }
+    sound_of s.left s.right c.inner.inside.block _ _ _ _ _ c.inner.invariant.own_is s.left_are s.right_are s.left_low s.right_low s.left_not_higher s.right_not_higher s.front_is (omega arith) (omega arith) (omega arith) s.height_is
 
 pub returns-clause-chars : goal.returns-clause-chars
 returns-clause-chars c =
