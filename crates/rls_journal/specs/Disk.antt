@@ -1,6 +1,14 @@
 -- What the calls of a disk do, and what a crash may do between two syncs.
-use Rattle.std.specs.Prelude.{◌≡◌, ◌≢◌, ◌⊎◌, ℕ, ◌+◌, ◌≤◌, max, List, length, take, drop, Option, Some, None}
+use Rattle.std.specs.Prelude.{◌≡◌, ◌≢◌, ◌⊎◌, ℕ, ◌+◌, ◌≤◌, max, List, length, take, drop, Option, Some, None, Result, IsErr, OnOk}
+use Rattle.rls_io.specs.Device.{Rose, one_more}
 use Rattle.rls_journal.specs.Areas.{Areas, area_of, with_area, spliced}
+
+-- a call that fails raises the count of faults by one, and no other call changes it
+pub record CountsFaults {A E : Type 0} (result : Result A E) (before after : ℕ) : Type 0 where
+  pub counted : IsErr result → after ≡ one_more before
+  pub uncounted : OnOk result (after ≡ before)
+  pub never_falls : before ≤ after
+  pub cause : IsErr result → Rose before after
 
 -- after a write of n bytes that a crash cuts short: any bytes in the range and past the old end, the same elsewhere
 pub record Torn (at n : ℕ) (old new : List ℕ) : Type 0 where

@@ -1,9 +1,8 @@
 //! A disk with three areas, and what a crash may leave of it.
 
-ghost use Rattle.std.specs.Prelude.{◌≡◌, ◌+◌, ◌<◌, ◌≤◌, ⊤, ℕ, Bool, length, take, drop, Option, Some, is_ok, IsErr, IfOk, OnOk, OnErr, IfSome};
-ghost use Rattle.rls_io.specs.Device.{Rose, one_more};
+ghost use Rattle.std.specs.Prelude.{◌≡◌, ◌+◌, ◌<◌, ◌≤◌, ⊤, ℕ, Bool, length, take, drop, Option, Some, is_ok, IfOk, OnOk, OnErr, IfSome};
 ghost use Rattle.rls_journal.specs.Areas.{Areas, area_of};
-ghost use Rattle.rls_journal.specs.Disk.{Tears, Renews, Writes, MayTear, Narrows, Follows, IsDurable, IsWritten, StaysDirty, StaysDirtyBut, Elapses};
+ghost use Rattle.rls_journal.specs.Disk.{CountsFaults, Tears, Renews, Writes, MayTear, Narrows, Follows, IsDurable, IsWritten, StaysDirty, StaysDirtyBut, Elapses};
 ghost use Rattle.rls_journal.specs.Memory.{DeviceCall, Looked, Wrote, Synced};
 
 use rls_io::Failed;
@@ -55,10 +54,7 @@ pub trait Disk {
         ensures crash { Narrows (may_leave self.old) (may_leave self.new) }
         ensures time { Elapses (moment self.old) (moment self.new) (left_since self.old) (left_since self.new) (may_leave self.new) }
         ensures gives { gives self.old Looked (is_ok result) self.new }
-        ensures counted { IsErr result → faults self.new ≡ one_more (faults self.old) }
-        ensures uncounted { OnOk result (faults self.new ≡ faults self.old) }
-        ensures never_falls { faults self.old ≤ faults self.new }
-        ensures cause { IsErr result → Rose (faults self.old) (faults self.new) };
+        ensures counted { CountsFaults result (faults self.old) (faults self.new) };
 
     /// Fills `buf` with the bytes of an area from `at` on. All of them lie within the area. After `Failed`, which comes only
     /// where the count of faults rose in this call, `buf` may hold any bytes.
@@ -71,10 +67,7 @@ pub trait Disk {
         ensures crash { Narrows (may_leave self.old) (may_leave self.new) }
         ensures time { Elapses (moment self.old) (moment self.new) (left_since self.old) (left_since self.new) (may_leave self.new) }
         ensures gives { gives self.old Looked (is_ok result) self.new }
-        ensures counted { IsErr result → faults self.new ≡ one_more (faults self.old) }
-        ensures uncounted { OnOk result (faults self.new ≡ faults self.old) }
-        ensures never_falls { faults self.old ≤ faults self.new }
-        ensures cause { IsErr result → Rose (faults self.old) (faults self.new) };
+        ensures counted { CountsFaults result (faults self.old) (faults self.new) };
 
     /// Writes over the bytes of an area from `at` on, which is at most its size, and past its end. No bytes change nothing.
     /// After `Failed`, which comes only where the count of faults rose in this call, the range and the part past the old end
@@ -89,10 +82,7 @@ pub trait Disk {
         ensures crash { Follows (Tears area at (length bytes.now)) (may_leave self.old) (may_leave self.new) }
         ensures time { Elapses (moment self.old) (moment self.new) (left_since self.old) (left_since self.new) (may_leave self.new) }
         ensures gives { gives self.old (Wrote area at bytes.now) (is_ok result) self.new }
-        ensures counted { IsErr result → faults self.new ≡ one_more (faults self.old) }
-        ensures uncounted { OnOk result (faults self.new ≡ faults self.old) }
-        ensures never_falls { faults self.old ≤ faults self.new }
-        ensures cause { IsErr result → Rose (faults self.old) (faults self.new) };
+        ensures counted { CountsFaults result (faults self.old) (faults self.new) };
 
     /// Makes the first byte of the gate dirty, with the value that it has; there is one. Where the disk has this value, a crash
     /// leaves it, whether the call fails or not; elsewhere the byte may hold anything after a crash, until a sync. A disk that
@@ -106,10 +96,7 @@ pub trait Disk {
         ensures idle { retries → Narrows (may_leave self.old) (may_leave self.new) }
         ensures time { Elapses (moment self.old) (moment self.new) (left_since self.old) (left_since self.new) (may_leave self.new) }
         ensures gives { gives self.old Looked (is_ok result) self.new }
-        ensures counted { IsErr result → faults self.new ≡ one_more (faults self.old) }
-        ensures uncounted { OnOk result (faults self.new ≡ faults self.old) }
-        ensures never_falls { faults self.old ≤ faults self.new }
-        ensures cause { IsErr result → Rose (faults self.old) (faults self.new) };
+        ensures counted { CountsFaults result (faults self.old) (faults self.new) };
 
     /// After an Ok, a crash leaves what reads give of the bytes of this area that were dirty, or of the whole area where the
     /// disk retries, and no longer an area than the one that is read. After `Failed`, which comes only where the count of
@@ -123,10 +110,7 @@ pub trait Disk {
         ensures crash { Narrows (may_leave self.old) (may_leave self.new) }
         ensures time { Elapses (moment self.old) (moment self.new) (left_since self.old) (left_since self.new) (may_leave self.new) }
         ensures gives { gives self.old (Synced area) (is_ok result) self.new }
-        ensures counted { IsErr result → faults self.new ≡ one_more (faults self.old) }
-        ensures uncounted { OnOk result (faults self.new ≡ faults self.old) }
-        ensures never_falls { faults self.old ≤ faults self.new }
-        ensures cause { IsErr result → Rose (faults self.old) (faults self.new) };
+        ensures counted { CountsFaults result (faults self.old) (faults self.new) };
 
     /// The disk as it reads is one of the images that a crash now may leave.
     ghost reads_now: { (disk : Self) (s : Areas) → seen disk ≡ Some s → may_leave disk s };

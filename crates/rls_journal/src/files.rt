@@ -1,8 +1,8 @@
 //! The three areas as files of the system, in the current folder: the trusted edge. They tell no content, so that no clause
 //! says what they give or take, or what a stop leaves of them.
 
-ghost use Rattle.std.specs.Prelude.{◌≡◌, ◌≤◌, None, IsErr, OnOk};
-ghost use Rattle.rls_io.specs.Device.{Rose, one_more};
+ghost use Rattle.std.specs.Prelude.{◌≡◌, None};
+ghost use Rattle.rls_journal.specs.Disk.{CountsFaults};
 ghost use Rattle.rls_journal.specs.Files.{disk_faults};
 
 use crate::disk::{Disk, GATE};
@@ -172,10 +172,7 @@ pub struct FileDisk<R: Files> {
 
 // Counts a failure.
 fn count<T>(faults: &mut u64, answer: io::Result<T>) -> Result<T, Failed>
-    ensures counted { IsErr result → faults.new ≡ one_more faults.old }
-    ensures uncounted { OnOk result (faults.new ≡ faults.old) }
-    ensures never_falls { faults.old ≤ faults.new }
-    ensures cause { IsErr result → Rose faults.old faults.new }
+    ensures counted { CountsFaults result faults.old faults.new }
 {
     match answer {
         Ok(value) => Ok(value),

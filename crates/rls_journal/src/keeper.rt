@@ -1,12 +1,12 @@
 //! The keeper on a disk.
 
-ghost use Rattle.std.specs.Prelude.{◌≡◌, ◌≤◌, ℕ, List, Option, Some, is_ok, IsErr, IfOk, OnOk, OnErr, IfSome, IsErrOf};
+ghost use Rattle.std.specs.Prelude.{◌≡◌, ◌≤◌, ℕ, List, Option, Some, is_ok, IfOk, OnOk, OnErr, IfSome, IsErrOf};
 ghost use Rattle.std.specs.Option.{option_map};
 ghost use Rattle.rls_io.specs.Device.{Rose, Loads, Stores, Keeps, one_more};
 ghost use Rattle.rls_io.specs.declared.devices.LoadError.TheVariants as load;
 ghost use Rattle.rls_io.specs.declared.devices.StoreError.TheVariants as store;
 ghost use Rattle.rls_journal.specs.Areas.{Areas, kept};
-ghost use Rattle.rls_journal.specs.Disk.{LeavesOnly};
+ghost use Rattle.rls_journal.specs.Disk.{CountsFaults, LeavesOnly};
 ghost use Rattle.rls_journal.specs.Slots.{HasStored, Holds, HoldsEither, IsSound, Looks};
 ghost use Rattle.rls_journal.specs.Keeper.{disk_of, file_told, IsStill, IsAtRest, IsOldOrNew, LoadGives, StoreGives};
 
@@ -51,10 +51,7 @@ fn write_file<D: Disk>(disk: &mut D, bytes: &[u8]) -> Result<(), Failed>
     ensures rest { OnOk result (IsAtRest D.retries D.seen D.may_leave disk.new) }
     ensures any_moment { IsAtRest D.retries D.seen D.may_leave disk.old → IfSome (D.seen disk.old) (λ s. LeavesOnly D.moment D.left_since disk.old disk.new (IsOldOrNew (kept s) bytes.now)) }
     ensures holds { IfSome (D.seen disk.old) (λ s. (file : Option (List ℕ)) → Holds file file s (D.may_leave disk.old) → HoldsEither D.seen D.may_leave file (Some bytes.now) disk.new) }
-    ensures counted { IsErr result → D.faults disk.new ≡ one_more (D.faults disk.old) }
-    ensures uncounted { OnOk result (D.faults disk.new ≡ D.faults disk.old) }
-    ensures never_falls { D.faults disk.old ≤ D.faults disk.new }
-    ensures cause { IsErr result → Rose (D.faults disk.old) (D.faults disk.new) }
+    ensures counted { CountsFaults result (D.faults disk.old) (D.faults disk.new) }
 {
     match settle(disk)? {
         Some(slot) => replace(disk, 1 - slot, bytes),

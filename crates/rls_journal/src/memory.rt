@@ -1,7 +1,7 @@
 //! A disk in memory, which tells all that it holds, and what a crash would have left of it.
 
 ghost use Rattle.std.specs.Prelude.{◌≡◌, ◌+◌, ◌<◌, ◌≤◌, ◌↔◌, [], length, take, Some, false, IsTrue, IsErr, IfOk, OnOk, OnErr};
-ghost use Rattle.rls_io.specs.Device.{Rose, one_more};
+ghost use Rattle.rls_journal.specs.Disk.{CountsFaults};
 ghost use Rattle.rls_journal.specs.Areas.{area_of};
 ghost use Rattle.rls_journal.specs.Memory.{Gives, IsQuiet, Looked, Wrote, Synced, MayLeave, written_at, seen_step, image_step, image_after, filled_after, bytes_written, reading, can_leave, might_have_left, Refuses, done, recorded, refused};
 ghost use Rattle.rls_journal.specs.Records.{WritesNothing, call_of, calls_of, bytes_in};
@@ -185,10 +185,7 @@ impl MemoryDisk {
     // A call that changes nothing.
     fn quiet(&mut self) -> Result<(), Failed>
         ensures quiet { IsQuiet self.old self.new }
-        ensures counted { IsErr result → self.new.faults ≡ one_more self.old.faults }
-        ensures uncounted { OnOk result (self.new.faults ≡ self.old.faults) }
-        ensures never_falls { self.old.faults ≤ self.new.faults }
-        ensures cause { IsErr result → Rose self.old.faults self.new.faults }
+        ensures counted { CountsFaults result self.old.faults self.new.faults }
         ensures exact { IsErr result ↔ Refuses self.old 0 }
         ensures done { OnOk result (self.new ≡ done self.old Looked) }
         ensures refused { OnErr result (self.new ≡ refused self.old) }

@@ -1,10 +1,10 @@
 //! Loading and storing, in the device calls of which they consist.
 
-ghost use Rattle.std.specs.Prelude.{◌≡◌, ◌-◌, ◌<◌, ◌≤◌, [], ℕ, length, Option, Some, None, IsErr, IfOk, OnOk, IfSome, IsErrOf};
+ghost use Rattle.std.specs.Prelude.{◌≡◌, ◌-◌, ◌<◌, ◌≤◌, [], ℕ, length, Option, Some, None, IfOk, OnOk, IfSome, IsErrOf};
 ghost use Rattle.rls_io.specs.Device.{Rose, Loads, one_more};
 ghost use Rattle.rls_io.specs.declared.devices.LoadError.TheVariants as load;
 ghost use Rattle.rls_journal.specs.Areas.{Areas, area_of, named_by, file_of, kept};
-ghost use Rattle.rls_journal.specs.Disk.{Tears, IsDurable, IsDurableAt, IsUnchanged, Changes, StaysDirty};
+ghost use Rattle.rls_journal.specs.Disk.{CountsFaults, Tears, IsDurable, IsDurableAt, IsUnchanged, Changes, StaysDirty};
 ghost use Rattle.rls_journal.specs.Slots.{Strays, MayStray, IsSettled, IsSettledNow, IsSound, HoldsOn, Looks, Puts, Names, HasStored};
 
 use crate::disk::{Disk, GATE};
@@ -18,10 +18,7 @@ fn gate_slot<D: Disk>(disk: &mut D) -> Result<Option<u8>, Failed>
     ensures durable { OnOk result (D.retries → IfSome (D.seen disk.old) (λ s. IsDurable 2 s (D.may_leave disk.new))) }
     ensures gate { OnOk result (IfSome (D.seen disk.old) (λ s. IsDurableAt 2 0 1 s (D.may_leave disk.new))) }
     ensures looks { Looks D.retries D.seen D.may_leave D.moment D.left_since disk.old disk.new }
-    ensures counted { IsErr result → D.faults disk.new ≡ one_more (D.faults disk.old) }
-    ensures uncounted { OnOk result (D.faults disk.new ≡ D.faults disk.old) }
-    ensures never_falls { D.faults disk.old ≤ D.faults disk.new }
-    ensures cause { IsErr result → Rose (D.faults disk.old) (D.faults disk.new) }
+    ensures counted { CountsFaults result (D.faults disk.old) (D.faults disk.new) }
 {
     if disk.size(GATE)? == 0 {
         disk.sync(GATE)?;
@@ -41,10 +38,7 @@ pub fn settle<D: Disk>(disk: &mut D) -> Result<Option<u8>, Failed>
     ensures small { IfOk result (λ slot. IfSome slot (λ n. n < 2)) }
     ensures settled { OnOk result (IsSound D.retries D.seen D.may_leave disk.old → IfSome (D.seen disk.old) (λ s. IsSettled s (D.may_leave disk.new))) }
     ensures looks { Looks D.retries D.seen D.may_leave D.moment D.left_since disk.old disk.new }
-    ensures counted { IsErr result → D.faults disk.new ≡ one_more (D.faults disk.old) }
-    ensures uncounted { OnOk result (D.faults disk.new ≡ D.faults disk.old) }
-    ensures never_falls { D.faults disk.old ≤ D.faults disk.new }
-    ensures cause { IsErr result → Rose (D.faults disk.old) (D.faults disk.new) }
+    ensures counted { CountsFaults result (D.faults disk.old) (D.faults disk.new) }
 {
     let Some(named) = gate_slot(disk)? else {
         return Ok(None);
@@ -58,10 +52,7 @@ fn file_size<D: Disk>(disk: &mut D, slot: u8) -> Result<u64, Failed>
     requires slot { slot < 2 }
     ensures count { IfOk result (λ n. IfSome (D.seen disk.old) (λ s. n ≡ length (file_of (area_of s slot)))) }
     ensures unchanged { IsUnchanged D.seen D.may_leave D.moment D.left_since disk.old disk.new }
-    ensures counted { IsErr result → D.faults disk.new ≡ one_more (D.faults disk.old) }
-    ensures uncounted { OnOk result (D.faults disk.new ≡ D.faults disk.old) }
-    ensures never_falls { D.faults disk.old ≤ D.faults disk.new }
-    ensures cause { IsErr result → Rose (D.faults disk.old) (D.faults disk.new) }
+    ensures counted { CountsFaults result (D.faults disk.old) (D.faults disk.new) }
 {
     let size = disk.size(slot)?;
     if size < 8 {
@@ -107,10 +98,7 @@ fn put<D: Disk>(disk: &mut D, slot: u8, bytes: &[u8]) -> Result<(), Failed>
     ensures number { OnOk result (D.is_dirty disk.new slot 0 8) }
     ensures bytes { OnOk result (D.is_dirty disk.new slot 8 (length bytes.now)) }
     ensures changes { Changes D.may_leave D.moment D.left_since (Strays slot) disk.old disk.new }
-    ensures counted { IsErr result → D.faults disk.new ≡ one_more (D.faults disk.old) }
-    ensures uncounted { OnOk result (D.faults disk.new ≡ D.faults disk.old) }
-    ensures never_falls { D.faults disk.old ≤ D.faults disk.new }
-    ensures cause { IsErr result → Rose (D.faults disk.old) (D.faults disk.new) }
+    ensures counted { CountsFaults result (D.faults disk.old) (D.faults disk.new) }
 {
     let number = (bytes.len() as u64).to_be_bytes();
     disk.write(slot, 0, &number)?;
@@ -123,10 +111,7 @@ fn name_slot<D: Disk>(disk: &mut D, slot: u8) -> Result<(), Failed>
     ensures names { OnOk result (Names slot (D.seen disk.old) (D.seen disk.new) (D.may_leave disk.new)) }
     ensures strays { MayStray 2 (D.seen disk.old) (D.seen disk.new) }
     ensures changes { Changes D.may_leave D.moment D.left_since (Tears 2 0 1) disk.old disk.new }
-    ensures counted { IsErr result → D.faults disk.new ≡ one_more (D.faults disk.old) }
-    ensures uncounted { OnOk result (D.faults disk.new ≡ D.faults disk.old) }
-    ensures never_falls { D.faults disk.old ≤ D.faults disk.new }
-    ensures cause { IsErr result → Rose (D.faults disk.old) (D.faults disk.new) }
+    ensures counted { CountsFaults result (D.faults disk.old) (D.faults disk.new) }
 {
     disk.write(GATE, 0, &[slot])?;
     disk.sync(GATE)
@@ -141,10 +126,7 @@ pub fn replace<D: Disk>(disk: &mut D, slot: u8, bytes: &[u8]) -> Result<(), Fail
     ensures any_moment { IfSome (D.seen disk.old) (λ s. named_by s.gate ≡ Some (1 - slot) → IsSettled s (D.may_leave disk.old)
         → HoldsOn D.seen D.may_leave D.moment D.left_since (kept s) (Some bytes.now) disk.old disk.new) }
     ensures settled { OnOk result (IsSettledNow D.seen D.may_leave disk.new) }
-    ensures counted { IsErr result → D.faults disk.new ≡ one_more (D.faults disk.old) }
-    ensures uncounted { OnOk result (D.faults disk.new ≡ D.faults disk.old) }
-    ensures never_falls { D.faults disk.old ≤ D.faults disk.new }
-    ensures cause { IsErr result → Rose (D.faults disk.old) (D.faults disk.new) }
+    ensures counted { CountsFaults result (D.faults disk.old) (D.faults disk.new) }
 {
     put(disk, slot, bytes)?;
     disk.sync(slot)?;
@@ -159,10 +141,7 @@ pub fn begin<D: Disk>(disk: &mut D, bytes: &[u8]) -> Result<(), Failed>
     ensures any_moment { IfSome (D.seen disk.old) (λ s. named_by s.gate ≡ None → IsSettled s (D.may_leave disk.old)
         → HoldsOn D.seen D.may_leave D.moment D.left_since (kept s) (Some bytes.now) disk.old disk.new) }
     ensures settled { OnOk result (IsSettledNow D.seen D.may_leave disk.new) }
-    ensures counted { IsErr result → D.faults disk.new ≡ one_more (D.faults disk.old) }
-    ensures uncounted { OnOk result (D.faults disk.new ≡ D.faults disk.old) }
-    ensures never_falls { D.faults disk.old ≤ D.faults disk.new }
-    ensures cause { IsErr result → Rose (D.faults disk.old) (D.faults disk.new) }
+    ensures counted { CountsFaults result (D.faults disk.old) (D.faults disk.new) }
 {
     put(disk, 0, bytes)?;
     put(disk, 1, bytes)?;

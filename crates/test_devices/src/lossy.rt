@@ -1,7 +1,7 @@
 //! A disk in memory that doesn't retry: what a sync that failed hasn't written, no later one writes, unless it is written again.
 
-ghost use Rattle.std.specs.Prelude.{◌≡◌, ◌≤◌, None, IsErr, OnOk};
-ghost use Rattle.rls_io.specs.Device.{Rose, one_more};
+ghost use Rattle.std.specs.Prelude.{None};
+ghost use Rattle.rls_journal.specs.Disk.{CountsFaults};
 
 use rls_io::Failed;
 use rls_journal::Disk;
@@ -146,10 +146,7 @@ impl Areas {
 
 // Counts a failure.
 fn count<T>(faults: &mut u64, answer: Option<T>) -> Result<T, Failed>
-    ensures counted { IsErr result → faults.new ≡ one_more faults.old }
-    ensures uncounted { OnOk result (faults.new ≡ faults.old) }
-    ensures never_falls { faults.old ≤ faults.new }
-    ensures cause { IsErr result → Rose faults.old faults.new }
+    ensures counted { CountsFaults result faults.old faults.new }
 {
     match answer {
         Some(value) => Ok(value),
