@@ -104,18 +104,6 @@ impl BlockTree {
         if let Some(i) = self.gap_for(first, len)? {
             return self.insert_between(i, first, text);
         }
-        self.insert_parts(first, text)
-    }
-
-    // Does the same where parts of it go into several gaps.
-    fn insert_parts(&mut self, first: &Ident, text: &Text) -> Result<(), AllocError>
-        requires piece { IsPiece (first.now, length text.now) text.now }
-        requires new { AreNew (run_idents first.now (length text.now)) (idents_in (entries_of self.old.blocks)) }
-        requires room { length (entries_of self.old.blocks) + length text.now < 2 ^ 64 }
-        ensures ok { OnOk result (entries_of self.new.blocks ≡ put_all (zip (run_idents first.now (length text.now)) text.now) (entries_of self.old.blocks)) }
-        ensures err { OnErr result (entries_of self.new.blocks ≡ entries_of self.old.blocks) }
-    {
-        let len = text.len() as u32;
         match Run::new(first.copy()?, len) {
             Ok(run) => self.insert_apart(slice::from_ref(&run), text),
             Err(RunError::Empty) => unreachable!(),
