@@ -1,17 +1,18 @@
 //! Which identifiers are known: what was found once needn't be looked for again.
 
-ghost use Rattle.std.specs.Prelude.{◌≡◌, ◌+◌, ◌<◌, ◌≤◌, ◌⊎◌, ℕ, true, List, Some, IfOk, IfSome, IsTrue, length, map, drop, slice_get};
+ghost use Rattle.std.specs.Prelude.{◌≡◌, ◌+◌, ◌<◌, ◌≤◌, ◌⊎◌, ℕ, true, List, Some, IfOk, IfSome, IsTrue, length, map, slice_get};
 ghost use Rattle.rls_ident.specs.declared.tuple.Tuple.{Tuple};
 ghost use Rattle.rls_ident.specs.Lists.{IsIn};
 ghost use Rattle.rls_runs.specs.Runs.{joined};
 ghost use Rattle.rls_rename.specs.Tree.{is_kept, greatest, translate};
 ghost use Rattle.rls_model.specs.Answers.{reason_of};
-ghost use Rattle.rls_seen.specs.Seen.{greatest_over, translate_over};
-ghost use Rattle.rls_seen.specs.Over.{is_known_over, first_unknown_over, refusal_over};
+ghost use Rattle.rls_seen.specs.Over.{is_known_over, refusal_over};
+ghost use Rattle.rls_replica.specs.Lookups.{AreTargets, AreKnown};
 ghost use Rattle.rls_replica.specs.Known.{AllKnown, IsKnown, FrontKnown, KeepsKnown};
 ghost use Rattle.rls_replica.specs.Unions.{Stands};
 
 use crate::gone::add;
+use crate::naming::Targets;
 use crate::replica::Replica;
 use crate::uniting::{below, put_part};
 use rls_epoch::Epochs;
@@ -58,24 +59,16 @@ fn are_full(lists: &[Runs]) -> bool {
 }
 
 impl Replica {
-    // How many targets from a place on, which are these identifiers of the greatest epoch, are remembered as known in a row.
-    pub(crate) fn remembered_from(
-        &self,
-        epoch: EpochName,
-        targets: &Runs,
-        images: &Runs,
-        at: u64,
-    ) -> Result<u64, AllocError>
-        requires place { at < length targets.now }
-        requires images { images.now ≡ map (translate_over self.now epoch (greatest_over self.now)) targets.now }
-        ensures within { IfOk result (λ n. at + n ≤ length targets.now) }
-        ensures known { IfOk result (λ n. first_unknown_over self.now epoch (drop (at + n) targets.now) ≡ first_unknown_over self.now epoch (drop at targets.now)) }
+    // How many targets from a place on are remembered as known in a row.
+    pub(crate) fn remembered_from(&self, targets: &Targets<'_>) -> Result<u64, AllocError>
+        requires targets { AreTargets self.now targets.now }
+        ensures known { IfOk result (λ n. AreKnown self.now targets.now n) }
     {
-        rely!(let _total = targets.total());
+        rely!(let _total = targets.ids.total());
         let Some(known) = &self.known else {
             return Ok(0);
         };
-        let count = known.count_from(images, at)?;
+        let count = known.count_from(targets.images, targets.at)?;
         Ok(count)
     }
 

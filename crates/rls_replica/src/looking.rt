@@ -1,7 +1,6 @@
 //! What is answered to an operation, before anything changes.
 
-ghost use Rattle.std.specs.Prelude.{◌≡◌, List, ◌+◌, ◌<◌, ◌≤◌, ◌&&◌, not, Some, None, IfOk, IsTrue, is_some, length, map, drop, slice_get, if◌then◌else◌};
-ghost use Rattle.rls_ident.specs.declared.tuple.Tuple.{Tuple};
+ghost use Rattle.std.specs.Prelude.{◌≡◌, ◌+◌, ◌<◌, ◌&&◌, not, Some, None, IfOk, IsTrue, is_some, length, if◌then◌else◌};
 ghost use Rattle.rls_ident.specs.declared.epoch_name.EpochName.{EpochName};
 ghost use Rattle.rls_ident.specs.EpochNames.{is_of_member};
 ghost use Rattle.rls_ident.specs.Tuples.{at_spot};
@@ -15,10 +14,11 @@ ghost use Rattle.rls_ops.specs.Waiting.{waiting_under};
 ghost use Rattle.rls_model.specs.Answers.{answer_of, reason_in, Waits, Refuses, Forked, WrongStem, UnknownTarget};
 ghost use Rattle.rls_model.specs.Receiving.{verdict_of, answer_beside, answer_by};
 ghost use Rattle.rls_model.specs.Stems.{may_use, due_offset};
-ghost use Rattle.rls_seen.specs.Seen.{members, vector, count_over, greatest_over, stable_over, translate_over};
+ghost use Rattle.rls_seen.specs.Seen.{members, vector, count_over, stable_over};
 ghost use Rattle.rls_seen.specs.Over.{first_unknown_over, body_refusal_over, refusal_over, answer_over};
-ghost use Rattle.rls_replica.specs.Lookups.{unknown_in, is_named_by, is_named_over};
+ghost use Rattle.rls_replica.specs.Lookups.{unknown_in, is_named_by, is_named_over, AreTargets, AreKnown, IsUnknown};
 
+use crate::naming::Targets;
 use crate::replica::Replica;
 use rls_doc::Document;
 use rls_epoch::Epochs;
@@ -174,7 +174,13 @@ impl Replica {
             .translate_runs(epoch, self.epochs.greatest(), targets)?;
         let mut at = 0;
         while at < targets.total() {
-            let known = self.known_from(epoch, targets, &images, at)?;
+            let rest = Targets {
+                epoch,
+                ids: targets,
+                images: &images,
+                at,
+            };
+            let known = self.known_from(&rest)?;
             if known == 0 {
                 let target = targets.get(at)?;
                 return Ok(Some(target));
@@ -184,28 +190,19 @@ impl Replica {
         Ok(None)
     }
 
-    // How many targets from a place on, which are these identifiers of the greatest epoch, are known at once: those that are
-    // remembered, or those that are found, whichever are more. The others of a run that is remembered aren't looked for.
-    fn known_from(
-        &self,
-        epoch: EpochName,
-        targets: &Runs,
-        images: &Runs,
-        at: u64,
-    ) -> Result<u64, AllocError>
-        requires kept { IsTrue (is_kept self.now.epochs.top self.now.epochs.nodes epoch) }
-        requires place { at < length targets.now }
-        requires images { images.now ≡ map (translate_over self.now epoch (greatest_over self.now)) targets.now }
-        ensures within { IfOk result (λ n. at + n ≤ length targets.now) }
-        ensures known { IfOk result (λ n. first_unknown_over self.now epoch (drop (at + n) targets.now) ≡ first_unknown_over self.now epoch (drop at targets.now)) }
-        ensures unknown { IfOk result (λ n. n ≡ 0 → (x : List Tuple) → slice_get targets.now at ≡ Some x → first_unknown_over self.now epoch (drop at targets.now) ≡ Some (UnknownTarget x)) }
+    // How many targets from a place on are known at once: those that are remembered, or those that are found, whichever are more. The
+    // others of a run that is remembered aren't looked for.
+    fn known_from(&self, targets: &Targets<'_>) -> Result<u64, AllocError>
+        requires targets { AreTargets self.now targets.now }
+        ensures known { IfOk result (λ n. AreKnown self.now targets.now n) }
+        ensures unknown { IfOk result (λ n. n ≡ 0 → IsUnknown self.now targets.now) }
     {
-        let remembered = self.remembered_from(epoch, targets, images, at)?;
-        let (run, from) = images.locate(at);
+        let remembered = self.remembered_from(targets)?;
+        let (run, from) = targets.images.locate(targets.at);
         if remembered == (run.len() - from) as u64 {
             return Ok(remembered);
         }
-        let found = self.found_from(epoch, targets, images, at)?;
+        let found = self.found_from(targets)?;
         if found < remembered {
             return Ok(remembered);
         }
@@ -213,26 +210,17 @@ impl Replica {
     }
 
     // How many of them are found to be so: those that are adjacent in the text, or else those that an unstable deletion names.
-    fn found_from(
-        &self,
-        epoch: EpochName,
-        targets: &Runs,
-        images: &Runs,
-        at: u64,
-    ) -> Result<u64, AllocError>
-        requires kept { IsTrue (is_kept self.now.epochs.top self.now.epochs.nodes epoch) }
-        requires place { at < length targets.now }
-        requires images { images.now ≡ map (translate_over self.now epoch (greatest_over self.now)) targets.now }
-        ensures within { IfOk result (λ n. at + n ≤ length targets.now) }
-        ensures known { IfOk result (λ n. first_unknown_over self.now epoch (drop (at + n) targets.now) ≡ first_unknown_over self.now epoch (drop at targets.now)) }
-        ensures unknown { IfOk result (λ n. n ≡ 0 → (x : List Tuple) → slice_get targets.now at ≡ Some x → first_unknown_over self.now epoch (drop at targets.now) ≡ Some (UnknownTarget x)) }
+    fn found_from(&self, targets: &Targets<'_>) -> Result<u64, AllocError>
+        requires targets { AreTargets self.now targets.now }
+        ensures known { IfOk result (λ n. AreKnown self.now targets.now n) }
+        ensures unknown { IfOk result (λ n. n ≡ 0 → IsUnknown self.now targets.now) }
     {
-        let (run, from) = images.locate(at);
+        let (run, from) = targets.images.locate(targets.at);
         let standing = self.document.standing(run, from)?;
         if standing > 0 {
             return Ok(standing as u64);
         }
-        let named = self.named_from(epoch, targets, at)?;
+        let named = self.named_from(targets)?;
         Ok(named)
     }
 }

@@ -1,6 +1,6 @@
 //! Which targets unstable deletions name, run by run.
 
-ghost use Rattle.std.specs.Prelude.{◌≡◌, ℕ, pos, List, ◌+◌, ◌<◌, ◌≤◌, ◌&&◌, not, false, true, Some, IfOk, IfSome, IfNone, IsTrue, length, drop, slice_get};
+ghost use Rattle.std.specs.Prelude.{◌≡◌, ℕ, pos, List, ◌+◌, ◌<◌, ◌≤◌, ◌&&◌, not, false, true, Some, IfOk, IfSome, IfNone, IsTrue, length, slice_get};
 ghost use Rattle.rls_ident.specs.declared.tuple.Tuple.{Tuple};
 ghost use Rattle.rls_ident.specs.Identifiers.{shifted};
 ghost use Rattle.rls_ident.specs.Lists.{IsIn};
@@ -8,9 +8,9 @@ ghost use Rattle.rls_rename.specs.Tree.{is_kept};
 ghost use Rattle.rls_ops.specs.declared.op.Op.{Op as OpSeen};
 ghost use Rattle.rls_ops.specs.Rows.{is_covered};
 ghost use Rattle.rls_seen.specs.Seen.{stable_over};
-ghost use Rattle.rls_seen.specs.Over.{is_known_over, first_unknown_over};
+ghost use Rattle.rls_seen.specs.Over.{is_known_over};
 ghost use Rattle.rls_replica.specs.Gone.{AreNamed, NamesNothing};
-ghost use Rattle.rls_replica.specs.Lookups.{is_named_by, is_named_over};
+ghost use Rattle.rls_replica.specs.Lookups.{is_named_by, is_named_over, AreTargets, AreKnown};
 
 use crate::hints::{Hint, Hints, Namings, note};
 use crate::replica::Replica;
@@ -20,48 +20,42 @@ use rls_ops::{Body, Op, covers};
 use rls_runs::Runs;
 use std::alloc::{AllocError, Global};
 
+/// Targets of a deletion from a place on: identifiers of an epoch, and what these are in the greatest one.
+#[derive(Clone, Copy)]
+pub(crate) struct Targets<'a> {
+    pub(crate) epoch: EpochName,
+    pub(crate) ids: &'a Runs,
+    pub(crate) images: &'a Runs,
+    pub(crate) at: u64,
+}
+
 impl Replica {
     // How many targets from a place on unstable deletions are found to name at once: none exactly where none names the first one.
-    pub(crate) fn named_from(
-        &self,
-        epoch: EpochName,
-        targets: &Runs,
-        at: u64,
-    ) -> Result<u64, AllocError>
-        requires kept { IsTrue (is_kept self.now.epochs.top self.now.epochs.nodes epoch) }
-        requires place { at < length targets.now }
-        ensures within { IfOk result (λ n. at + n ≤ length targets.now) }
-        ensures known { IfOk result (λ n. first_unknown_over self.now epoch (drop (at + n) targets.now) ≡ first_unknown_over self.now epoch (drop at targets.now)) }
-        ensures none { IfOk result (λ n. n ≡ 0 → (x : List Tuple) → slice_get targets.now at ≡ Some x → is_named_over self.now epoch x self.now.log ≡ false) }
+    pub(crate) fn named_from(&self, targets: &Targets<'_>) -> Result<u64, AllocError>
+        requires targets { AreTargets self.now targets.now }
+        ensures known { IfOk result (λ n. AreKnown self.now targets.now n) }
+        ensures none { IfOk result (λ n. n ≡ 0 → (x : List Tuple) → slice_get targets.now.ids.now targets.now.at ≡ Some x → is_named_over self.now targets.now.epoch x self.now.log ≡ false) }
     {
-        let target = targets.get(at)?;
-        let hinted = self.hinted_from(epoch, targets, at, &target)?;
+        let target = targets.ids.get(targets.at)?;
+        let hinted = self.hinted_from(targets, &target)?;
         if hinted > 0 {
             return Ok(hinted);
         }
-        if self.is_named(epoch, &target)? {
+        if self.is_named(targets.epoch, &target)? {
             return Ok(1);
         }
         Ok(0)
     }
 
     // How many targets from a place on, of which the first is given, the deletion names at which a hint points.
-    fn hinted_from(
-        &self,
-        epoch: EpochName,
-        targets: &Runs,
-        at: u64,
-        target: &Ident,
-    ) -> Result<u64, AllocError>
-        requires kept { IsTrue (is_kept self.now.epochs.top self.now.epochs.nodes epoch) }
-        requires place { at < length targets.now }
-        ensures within { IfOk result (λ n. at + n ≤ length targets.now) }
-        ensures known { IfOk result (λ n. first_unknown_over self.now epoch (drop (at + n) targets.now) ≡ first_unknown_over self.now epoch (drop at targets.now)) }
+    fn hinted_from(&self, targets: &Targets<'_>, target: &Ident) -> Result<u64, AllocError>
+        requires targets { AreTargets self.now targets.now }
+        ensures known { IfOk result (λ n. AreKnown self.now targets.now n) }
     {
-        let Some(hint) = self.hint(epoch, target)? else {
+        let Some(hint) = self.hint(targets.epoch, target)? else {
             return Ok(0);
         };
-        self.names_run(hint, epoch, targets, at)
+        self.names_run(hint, targets)
     }
 
     // Which unstable operation of the log the hints tell for a target.
@@ -189,51 +183,34 @@ impl Replica {
 
     // How many targets from a place on, within their run, the operation names that a hint tells. If the log has it as a value, it isn't
     // made of its bytes.
-    fn names_run(
-        &self,
-        hint: Hint,
-        epoch: EpochName,
-        targets: &Runs,
-        at: u64,
-    ) -> Result<u64, AllocError>
+    fn names_run(&self, hint: Hint, targets: &Targets<'_>) -> Result<u64, AllocError>
         requires logged { hint.place < length self.now.log }
-        requires kept { IsTrue (is_kept self.now.epochs.top self.now.epochs.nodes epoch) }
-        requires place { at < length targets.now }
-        ensures within { IfOk result (λ n. at + n ≤ length targets.now) }
-        ensures known { IfOk result (λ n. first_unknown_over self.now epoch (drop (at + n) targets.now) ≡ first_unknown_over self.now epoch (drop at targets.now)) }
+        requires targets { AreTargets self.now targets.now }
+        ensures known { IfOk result (λ n. AreKnown self.now targets.now n) }
     {
         if let Some(op) = self.log.large_deletion(hint.place) {
-            return self.names_most(op, hint.count, epoch, targets, at);
+            return self.names_most(op, hint.count, targets);
         }
         let op = self.log.op(hint.place)?;
-        self.names_most(&op, hint.count, epoch, targets, at)
+        self.names_most(&op, hint.count, targets)
     }
 
     // How many targets from a place on, within their run and at most so many, an operation names. If it is of another epoch, those that
     // follow may be elsewhere there: so it tries one, two, four and so on.
-    fn names_most(
-        &self,
-        op: &Op,
-        limit: u32,
-        epoch: EpochName,
-        targets: &Runs,
-        at: u64,
-    ) -> Result<u64, AllocError>
+    fn names_most(&self, op: &Op, limit: u32, targets: &Targets<'_>) -> Result<u64, AllocError>
         requires logged { IsIn op.now self.now.log }
-        requires kept { IsTrue (is_kept self.now.epochs.top self.now.epochs.nodes epoch) }
-        requires place { at < length targets.now }
-        ensures within { IfOk result (λ n. at + n ≤ length targets.now) }
-        ensures known { IfOk result (λ n. first_unknown_over self.now epoch (drop (at + n) targets.now) ≡ first_unknown_over self.now epoch (drop at targets.now)) }
+        requires targets { AreTargets self.now targets.now }
+        ensures known { IfOk result (λ n. AreKnown self.now targets.now n) }
     {
-        let (run, from) = targets.locate(at);
+        let (run, from) = targets.ids.locate(targets.at);
         let most = limit.min(run.len() - from);
-        if op.epoch.same(&epoch) {
-            return self.names_count(op, epoch, targets, at, most);
+        if op.epoch.same(&targets.epoch) {
+            return self.names_count(op, targets, most);
         }
         let mut named = 0;
         for doublings in 0..32u32 {
             let count = most.min(1 << doublings);
-            named = self.names_count(op, epoch, targets, at, count)?;
+            named = self.names_count(op, targets, count)?;
             if named < count as u64 || count == most {
                 break;
             }
@@ -242,22 +219,13 @@ impl Replica {
     }
 
     // How many of `count` targets from a place on, all of one run, it names from the first one on.
-    fn names_count(
-        &self,
-        op: &Op,
-        epoch: EpochName,
-        targets: &Runs,
-        at: u64,
-        count: u32,
-    ) -> Result<u64, AllocError>
+    fn names_count(&self, op: &Op, targets: &Targets<'_>, count: u32) -> Result<u64, AllocError>
         requires logged { IsIn op.now self.now.log }
-        requires kept { IsTrue (is_kept self.now.epochs.top self.now.epochs.nodes epoch) }
-        requires place { at < length targets.now }
-        ensures within { IfOk result (λ n. at + n ≤ length targets.now) }
-        ensures known { IfOk result (λ n. first_unknown_over self.now epoch (drop (at + n) targets.now) ≡ first_unknown_over self.now epoch (drop at targets.now)) }
+        requires targets { AreTargets self.now targets.now }
+        ensures known { IfOk result (λ n. AreKnown self.now targets.now n) }
     {
-        let part = part_of(self.alloc, targets, at, count)?;
-        let named = self.names_front(op, epoch, &part)?;
+        let part = part_of(self.alloc, targets.ids, targets.at, count)?;
+        let named = self.names_front(op, targets.epoch, &part)?;
         Ok(named)
     }
 

@@ -1,9 +1,10 @@
-use Rattle.std.proofs.Common.{◌∙◌, sym}
+use Rattle.std.proofs.Common.{◌∙◌, sym, arith}
 use Rattle.rls_replica.proofs.Targets.{known_if_named, known_one}
 use Rattle.rls_replica.proofs.replica.Replica.named_from.Goals as goal
 
 pub returns-then-branch-clause-known : goal.returns-then-branch-clause-known
 returns-then-branch-clause-known c =
-    let s = c.args.self.now in
+    let z = c.args.targets.now in
     let x = c.in_ok-target.target in
-    known_one s c.args.epoch c.args.targets.now c.args.at x c.in_ok-target.ensures.found (known_if_named s c.args.epoch x (sym c.in_ok-is_named.ensures.named ∙ c.if-branch.true))
+    let named = known_if_named c.args.self.now z.epoch x (sym c.in_ok-is_named.ensures.named ∙ c.if-branch.true) in
+    record { within = omega arith; known = known_one c.args.self.now z.epoch z.ids.now z.at x c.in_ok-target.ensures.found named }

@@ -12,14 +12,12 @@ use Rattle.rls_replica.proofs.replica.Replica.remembered_from.Goals as goal
 pub returns : goal.returns
 returns c =
     let s = c.args.self.now in
-    let e = c.args.epoch in
-    let xs = c.args.targets.now in
+    let e = c.args.targets.now.epoch in
+    let xs = c.args.targets.now.ids.now in
     let known = c.in-Some.known in
     let n = c.in_ok-count.count in
-    let long : length c.args.images.now ≡ length xs = ap length c.requires.images ∙ length-map xs (translate_over s e (greatest_over s)) in
-    let within : c.args.at + n ≤ length xs = omega (arith, long, c.in_ok-count.ensures.within) in
+    let long : length c.args.targets.now.images.now ≡ length xs = ap length c.requires.targets.images ∙ length-map xs (translate_over s e (greatest_over s)) in
+    let within : c.args.targets.now.at + n ≤ length xs = omega (arith, long, c.in_ok-count.ensures.within) in
     let h : IsKnown s known = subst (λ (u : Seen). IsKnown u known) c.self.view_is (subst (λ (r : Option Known). IfSome r (λ k. IsKnown (seen c.self.inside) k)) c.in-Some.is c.self.invariant.known_are) in
-    record {
-      within = within;
-      known = remembered_known s known e xs c.args.images.now c.args.at n (subst IsSane c.self.view_is c.self.invariant.sane) h c.total-total.ensures.idents c.requires.images within c.in_ok-count.ensures.there c.in_ok-count.ensures.clear;
-    }
+    let known = remembered_known s known e xs c.args.targets.now.images.now c.args.targets.now.at n (subst IsSane c.self.view_is c.self.invariant.sane) h c.total-total.ensures.idents c.requires.targets.images within c.in_ok-count.ensures.there c.in_ok-count.ensures.clear in
+    record { known = record { within = within; known = known } }
