@@ -121,27 +121,14 @@ impl Replica {
         let Some(release) = self.look_ready()? else {
             return Ok(None);
         };
-        let Release {
-            author,
-            seq,
-            refusal,
-        } = release;
-        match refusal {
+        match &release.refusal {
             None => {
                 self.apply_ready()?;
-                Ok(Some(Release {
-                    author,
-                    seq,
-                    refusal: None,
-                }))
+                Ok(Some(release))
             }
-            Some(refusal) => {
-                self.forget(author, seq);
-                Ok(Some(Release {
-                    author,
-                    seq,
-                    refusal: Some(refusal),
-                }))
+            Some(_) => {
+                self.forget(release.author, release.seq);
+                Ok(Some(release))
             }
         }
     }

@@ -69,8 +69,8 @@ finish-requires-clause-stem_room c =
     let e = next_taken _ c.args.self.now _ c.in-Some.op.now c.in-Some-remove.op c.remove.result c.self.view_is c.self.invariant.sane c.mine.ensures.mine c.in-Some.ensures.ready c.requires.fits c.remove.ensures.found c.in-Some-remove.is in
     subst (λ (o : Op). 0 < slice_index c.prepare.new.stems.spare o.author) (sym e) c.in_ok-renaming.ensures.stem_room
 
-after : goal.returns-clause-ok
-after c =
+pub returns-clause-ok : goal.returns-clause-ok
+returns-clause-ok c =
     let i = seen c.self.inside in
     let w = c.in-Some.op.now in
     let h = next_is i c.args.self.now c.mine.result.now w c.self.view_is c.self.invariant.sane c.mine.ensures.mine c.in-Some.ensures.ready c.requires.fits in
@@ -87,14 +87,11 @@ after c =
     ∙ (ap (λ v. logged v i.log c.in-Some-remove.op) c.stable.ensures.stable ∙ ap (logged (stable_of c.finish.new.acks) i.log) e))
     ∙ (released_accepted i w h.first h.fits ∙ ap released c.self.view_is)
 
-pub returns-clause-ok : goal.returns-clause-ok
-returns-clause-ok c = after c
-
 pub invariant_of-self-2 : goal.invariant_of-self-2
 invariant_of-self-2 c =
     let s = c.args.self.now in
     let sane = released_sane s (subst IsSane c.self.view_is c.self.invariant.sane) in
-    whole_kept (seen c.self.inside) s _ (released s) c.self.inside.stems.members c.finish.new.stems.members c.self.inside.gone c.self.inside.known c.keep_known.new.known c.self.view_is c.self.invariant (after c) sane (members_released s) (c.finish.ensures.members ∙ c.in_ok-renaming.ensures.members)
+    whole_kept (seen c.self.inside) s _ (released s) c.self.inside.stems.members c.finish.new.stems.members c.self.inside.gone c.self.inside.known c.keep_known.new.known c.self.view_is c.self.invariant (returns-clause-ok c) sane (members_released s) (c.finish.ensures.members ∙ c.in_ok-renaming.ensures.members)
     (λ g k. let i = seen c.self.inside in
     let h = next_is i s c.mine.result.now c.in-Some.op.now c.self.view_is c.self.invariant.sane c.mine.ensures.mine c.in-Some.ensures.ready c.requires.fits in
     subst (λ (u : Seen). IsGone u g) (released_accepted i c.in-Some.op.now h.first h.fits ∙ ap released c.self.view_is) (gone_accepted i c.in-Some.op.now c.self.invariant.sane h.may g (subst (λ (u : Seen). IsGone u g) (sym c.self.view_is) k)))

@@ -19,8 +19,8 @@ use Rattle.rls_replica.proofs.StillNumbers.{counts_still}
 use Rattle.rls_replica.proofs.Whole.{whole_next}
 use Rattle.rls_replica.proofs.replica.Replica.drop_stable.Goals as goal
 
-after : goal.returns-clause-after
-after c =
+pub returns-clause-after : goal.returns-clause-after
+returns-clause-after c =
     let s = seen c.self.inside in
     let marks = c.mark_unstable.new.epochs.marks in
     dropped_is s c.keep.new.self.epochs marks c.drop_at_most.new.self c.self.invariant.sane.epochs.nodes
@@ -29,24 +29,21 @@ after c =
     (c.drop_at_most.ensures.kept ∙ ap (λ (v : List ℕ). missing_for v s.log) c.stable-3.ensures.stable)
     ∙ ap dropped c.self.view_is
 
-pub returns-clause-after : goal.returns-clause-after
-returns-clause-after c = after c
-
 pub returns-clause-counts : goal.returns-clause-counts
-returns-clause-counts c = let s = c.args.self.now in ap counts_over (after c) ∙ counts_still s (subst IsSane c.self.view_is c.self.invariant.sane)
+returns-clause-counts c = let s = c.args.self.now in ap counts_over (returns-clause-after c) ∙ counts_still s (subst IsSane c.self.view_is c.self.invariant.sane)
 
 pub returns-clause-kept : goal.returns-clause-kept
 returns-clause-kept c =
-    let s = c.args.self.now in subst (λ (u : Seen). KeepsJust u (counts_over s)) (sym (after c)) (keeps_just s (subst IsSane c.self.view_is c.self.invariant.sane))
+    let s = c.args.self.now in subst (λ (u : Seen). KeepsJust u (counts_over s)) (sym (returns-clause-after c)) (keeps_just s (subst IsSane c.self.view_is c.self.invariant.sane))
 
 pub returns-clause-stands : goal.returns-clause-stands
 returns-clause-stands c = λ t h. (
-  subst (λ (u : Seen). StandsFor u t) (sym (after c)) (dropped_stands c.args.self.now t h),
-  subst (λ (u : Seen). KeepsJust u (counts t)) (sym (after c)) (subst (λ (n : Counts). KeepsJust (dropped c.args.self.now) n) (counts_alike c.args.self.now t h) (keeps_just c.args.self.now (subst IsSane c.self.view_is c.self.invariant.sane))),
+  subst (λ (u : Seen). StandsFor u t) (sym (returns-clause-after c)) (dropped_stands c.args.self.now t h),
+  subst (λ (u : Seen). KeepsJust u (counts t)) (sym (returns-clause-after c)) (subst (λ (n : Counts). KeepsJust (dropped c.args.self.now) n) (counts_alike c.args.self.now t h) (keeps_just c.args.self.now (subst IsSane c.self.view_is c.self.invariant.sane))),
 )
 
 pub invariant_of-self : goal.invariant_of-self
 invariant_of-self c =
     let s = c.args.self.now in
-    whole_next (seen c.self.inside) s _ (dropped s) c.self.inside.stems.members c.self.inside.stems.members c.self.inside.gone None c.self.inside.known None c.self.view_is c.self.invariant (after c)
+    whole_next (seen c.self.inside) s _ (dropped s) c.self.inside.stems.members c.self.inside.stems.members c.self.inside.gone None c.self.inside.known None c.self.view_is c.self.invariant (returns-clause-after c)
     (dropped_sane s (subst IsSane c.self.view_is c.self.invariant.sane)) (members_dropped s) refl tt tt

@@ -11,21 +11,19 @@ pub loop-i-preserved-then-is_covered : goal.loop-i-preserved-then-is_covered
 loop-i-preserved-then-is_covered c =
     let s = c.args.self.now in
     let h = c.head-head.ensures.head in
-    let o = h.0 in
-    let here = subst (λ (u : Seen). slice_get u.log c.loop-i.i ≡ Some o) c.self.view_is h.1 in
+    let here = subst (λ (u : Seen). slice_get u.log c.loop-i.i ≡ Some h.0) c.self.view_is h.1 in
     let stable : c.stable.result.now ≡ stable_over s = c.stable.ensures.stable ∙ ap (λ (u : Seen). stable_over u) c.self.view_is in
-    let below : is_covered c.stable.result.now o ≡ true = sym (c.is_covered.ensures.covered o h.2) ∙ c.if-is_covered.true in
-    ap (λ (os : List Op). c.loop-i.names.items ++ map (λ (x : Op). x.epoch) os) (covered_step (stable_over s) s.log c.loop-i.i o here (subst (λ (v : List ℕ). is_covered v o ≡ true) stable below)) ∙ c.loop-i.invariant
+    let below : is_covered c.stable.result.now h.0 ≡ true = sym (c.is_covered.ensures.covered h.0 h.2) ∙ c.if-is_covered.true in
+    ap (λ (os : List Op). c.loop-i.names.items ++ map (λ (x : Op). x.epoch) os) (covered_step (stable_over s) s.log c.loop-i.i h.0 here (subst (λ (v : List ℕ). is_covered v h.0 ≡ true) stable below)) ∙ c.loop-i.invariant
 
 pub loop-i-preserved : goal.loop-i-preserved
 loop-i-preserved c =
     let s = c.args.self.now in
     let h = c.head-head.ensures.head in
-    let o = h.0 in
-    let here = subst (λ (u : Seen). slice_get u.log c.loop-i.i ≡ Some o) c.self.view_is h.1 in
+    let here = subst (λ (u : Seen). slice_get u.log c.loop-i.i ≡ Some h.0) c.self.view_is h.1 in
     let stable : c.stable.result.now ≡ stable_over s = c.stable.ensures.stable ∙ ap (λ (u : Seen). stable_over u) c.self.view_is in
-    let above : is_covered c.stable.result.now o ≡ false = sym (c.is_covered.ensures.covered o h.2) ∙ c.if-is_covered.false in
+    let above : is_covered c.stable.result.now h.0 ≡ false = sym (c.is_covered.ensures.covered h.0 h.2) ∙ c.if-is_covered.false in
     let rest = map (λ (x : Op). x.epoch) (missing_for (stable_over s) (drop (c.loop-i.i + 1) s.log)) in
     ap (λ (es : List EpochName). es ++ rest) (c.in_ok-push.ensures.items ∙ ap (λ (e : EpochName). c.loop-i.names.items ++ e ∷ []) h.2.epoch)
-    ∙ (append_assoc c.loop-i.names.items (o.epoch ∷ []) rest
-    ∙ (ap (λ (os : List Op). c.loop-i.names.items ++ map (λ (x : Op). x.epoch) os) (uncovered_step (stable_over s) s.log c.loop-i.i o here (subst (λ (v : List ℕ). is_covered v o ≡ false) stable above)) ∙ c.loop-i.invariant))
+    ∙ (append_assoc c.loop-i.names.items (h.0.epoch ∷ []) rest
+    ∙ (ap (λ (os : List Op). c.loop-i.names.items ++ map (λ (x : Op). x.epoch) os) (uncovered_step (stable_over s) s.log c.loop-i.i h.0 here (subst (λ (v : List ℕ). is_covered v h.0 ≡ false) stable above)) ∙ c.loop-i.invariant))

@@ -7,20 +7,16 @@ use Rattle.rls_seen.proofs.Receiving.{received_is, received_stands}
 use Rattle.rls_replica.proofs.KeptNames.{names_unchanged, received_names}
 use Rattle.rls_replica.proofs.replica.Replica.receive.Goals as goal
 
-after : goal.returns-clause-after
-after c = c.in_ok-receipt.ensures.after ∙ received_is c.args.self.now c.args.op (answer_over false c.args.self.now c.args.op) refl
-
 pub returns-clause-after : goal.returns-clause-after
-returns-clause-after c = after c
+returns-clause-after c = c.in_ok-receipt.ensures.after ∙ received_is c.args.self.now c.args.op (answer_over false c.args.self.now c.args.op) refl
 
 pub returns-clause-stands : goal.returns-clause-stands
 returns-clause-stands c = λ t h.
-    let e = c.in_ok-receipt.ensures in
-    let law = received_stands c.args.self.now t c.args.op e.whole h in
-    (e.answer ∙ law.0, subst (λ (s : Seen). StandsFor s (receive_after t c.args.op)) (sym (after c)) law.1)
+    let law = received_stands c.args.self.now t c.args.op c.in_ok-receipt.ensures.whole h in
+    (c.in_ok-receipt.ensures.answer ∙ law.0, subst (λ (s : Seen). StandsFor s (receive_after t c.args.op)) (sym (returns-clause-after c)) law.1)
 
 pub returns-in_err-receipt-clause-names : goal.returns-in_err-receipt-clause-names
 returns-in_err-receipt-clause-names c = names_unchanged c.args.self.now _ c.in_err-receipt.ensures.err
 
 pub returns-clause-names : goal.returns-clause-names
-returns-clause-names c = rw (after c) (received_names c.args.self.now c.args.op)
+returns-clause-names c = rw (returns-clause-after c) (received_names c.args.self.now c.args.op)

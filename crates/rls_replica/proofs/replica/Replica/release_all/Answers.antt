@@ -19,14 +19,11 @@ idle s e = ap is_some (nothing_released s e)
 pub returns-then-none_waits-clause-ok : goal.returns-then-none_waits-clause-ok
 returns-then-none_waits-clause-ok c = sym (releases_done (course c.args.self.now c.args.taken.now) (idle c.args.self.now (c.none_waits.ensures.none c.if-none_waits.true)))
 
-idle_after : goal.returns-then-none_waits-clause-after
-idle_after c = sym (all_done c.args.self.now (idle c.args.self.now (c.none_waits.ensures.none c.if-none_waits.true)))
-
 pub returns-then-none_waits-clause-after : goal.returns-then-none_waits-clause-after
-returns-then-none_waits-clause-after c = idle_after c
+returns-then-none_waits-clause-after c = sym (all_done c.args.self.now (idle c.args.self.now (c.none_waits.ensures.none c.if-none_waits.true)))
 
 pub returns-then-none_waits-clause-stands : goal.returns-then-none_waits-clause-stands
-returns-then-none_waits-clause-stands c = λ t h. rw (idle_after c) (released_all_stands c.args.self.now t h)
+returns-then-none_waits-clause-stands c = λ t h. rw (returns-then-none_waits-clause-after c) (released_all_stands c.args.self.now t h)
 
 pub returns-then-none_waits-clause-names : goal.returns-then-none_waits-clause-names
 returns-then-none_waits-clause-names c = λ e h. h
@@ -64,21 +61,18 @@ returns-clause-ok c =
     let none = sym e.some ∙ c.if-branch.false in
     e.step ∙ (step_done d none ∙ (sym (releases_done d none) ∙ c.releases.invariant.all))
 
-after : goal.returns-clause-after
-after c =
+pub returns-clause-after : goal.returns-clause-after
+returns-clause-after c =
     let e = c.in_ok-release_one.ensures in
     let none = sym e.some ∙ c.if-branch.false in
     e.after ∙ (none_released c.releases.self none ∙ (sym (all_done c.releases.self none) ∙ c.releases.invariant.seen))
 
-pub returns-clause-after : goal.returns-clause-after
-returns-clause-after c = after c
-
 pub returns-clause-stands : goal.returns-clause-stands
-returns-clause-stands c = λ t h. rw (after c) (released_all_stands c.args.self.now t h)
+returns-clause-stands c = λ t h. rw (returns-clause-after c) (released_all_stands c.args.self.now t h)
 
 pub returns-in_err-release_one-clause-names : goal.returns-in_err-release_one-clause-names
 returns-in_err-release_one-clause-names c =
     part_released_names c.args.self.now c.release_one.new.self (parts_sum c.args.self.now c.releases.self c.release_one.new.self c.releases.invariant.part c.in_err-release_one.ensures.err)
 
 pub returns-clause-names : goal.returns-clause-names
-returns-clause-names c = rw (after c) (all_names c.args.self.now)
+returns-clause-names c = rw (returns-clause-after c) (all_names c.args.self.now)

@@ -28,7 +28,7 @@ pub returns-in-Some-refusal-clause-after : goal.returns-in-Some-refusal-clause-a
 returns-in-Some-refusal-clause-after c =
     let a = c.in-Some.release.author in
     let q = c.in-Some.release.seq in
-    let r = reason_of c.in-Some-refusal.refusal in
+    let r = reason_of c.in-Some-refusal.field-0 in
     let e : release_over c.learn_ready.new.self ≡ Some (record { author = a; seq = q; refusal = Some r }) =
     sym c.in_ok-release.ensures.answer ∙ (ap release_in c.in-Some.is ∙ ap (λ (x : Option Refusal). Some (record { author = a; seq = q; refusal = reason_in x })) c.in-Some-refusal.is) in
     c.forget.ensures.after ∙ (refused_is c.learn_ready.new.self a q r e ∙ ap released (c.learn_ready.ensures.same ∙ c.note_gone.ensures.same))

@@ -35,23 +35,18 @@ acknowledge-requires-clause-counts c =
 pub returns-clause-taken : goal.returns-clause-taken
 returns-clause-taken c = c.in_ok-taken.ensures.taken ∙ sym (message_counts c.args.self.now c.args.message)
 
-after : goal.returns-clause-after
-after c =
+pub returns-clause-after : goal.returns-clause-after
+returns-clause-after c =
     let m = c.args.message in
     c.acknowledge.ensures.after ∙ (ap (λ (u : Seen). acknowledged u m.from m.vector) c.in_ok-taken.ensures.after ∙ sym (message_seen c.args.self.now m))
-
-pub returns-clause-after : goal.returns-clause-after
-returns-clause-after c = after c
 
 pub returns-clause-stands : goal.returns-clause-stands
 returns-clause-stands c = λ t h.
     let s = c.args.self.now in
     let m = c.args.message in
     let whole = message_whole s m (omega (arith, c.if-message-members.false, c.members.ensures.members)) c.requires.from c.requires.vector c.len-len.ensures.bounded c.fits.ensures.whole in
-    let law = taken_alike None s t m whole h in (
-      returns-clause-taken c ∙ law.0,
-      subst (λ (u : Seen). StandsFor u (take_message t m).state) (sym (after c)) law.1,
-    )
+    let law = taken_alike None s t m whole h in
+    (returns-clause-taken c ∙ law.0, subst (λ (u : Seen). StandsFor u (take_message t m).state) (sym (returns-clause-after c)) law.1)
 
 pub returns-clause-names : goal.returns-clause-names
 returns-clause-names c = names_on c.args.self.now c.take_ops.new.self c.acknowledge.new.self c.take_ops.ensures.names c.acknowledge.ensures.names

@@ -1,4 +1,4 @@
-use Rattle.std.proofs.Common.{◌≡◌, ◌+◌, ◌^◌, ℕ, None, Some, length, sym, ap, subst, rules, arith}
+use Rattle.std.proofs.Common.{◌+◌, ℕ, None, Some, length, sym, ap, subst, rules, arith}
 use Rattle.rls_model.specs.Receiving.{State}
 use Rattle.rls_model.specs.Taking as model
 use Rattle.rls_seen.specs.Messages.{started, taken_of}
