@@ -32,7 +32,7 @@ use Rattle.rls_file.proofs.GivenParts.{parts_are_given}
 use Rattle.rls_file.proofs.WholeFiles.{after_form, file_is, fault_of}
 use Rattle.rls_file.specs.declared.loading.FileError.{FileError}
 use Rattle.rls_file.specs.declared.loading.FileError.TheVariants.{Damaged, OutOfMemory}
-use Rattle.rls_file.specs.Loading.{snapshot_behind, damage_of, ReadsParts, IsLoaded, StandsFrom, Loads, FileStandsFor, seen_in}
+use Rattle.rls_file.specs.Loading.{snapshot_behind, damage_of, ReadsParts, IsLoaded, StandsFrom, Loads, LoadsBytes, FileStandsFor, seen_in}
 use Rattle.rls_file.specs.Kept.{LoadedIsWritable}
 use Rattle.rls_file.specs.Stored.{AreWritable}
 use Rattle.rls_file.proofs.Bounded.{whole_length, place_within}
@@ -132,11 +132,11 @@ journal_loaded bytes rest after t s r h read none replay is =
 
 -- ---- clauses
 
-pub loads_ok : (r : Result Seen FileError) (bytes : List ℕ) → Loads r bytes → IfOk r (λ s. (c : Content) × (file_of bytes ≡ Ok c) × (s ≡ seen_in c))
+loads_ok : (r : Result Seen FileError) (bytes : List ℕ) → Loads r bytes → IfOk r (λ s. (c : Content) × (file_of bytes ≡ Ok c) × (s ≡ seen_in c))
 loads_ok (Ok s) bytes h = (h.0, h.1, h.2.0)
 loads_ok (Err e) bytes h = tt
 
-pub loads_damaged : (r : Result Seen FileError) (bytes : List ℕ) → Loads r bytes → (at : ℕ) → r ≡ Err (Damaged at) → file_of bytes ≡ Err at
+loads_damaged : (r : Result Seen FileError) (bytes : List ℕ) → Loads r bytes → (at : ℕ) → r ≡ Err (Damaged at) → file_of bytes ≡ Err at
 loads_damaged r bytes h at e = subst (λ x. Loads x bytes) e h
 
 abbrev content_ok : Content → Result Content ℕ
@@ -145,24 +145,24 @@ content_ok c = Ok c
 same_content : (c d : Content) → content_ok c ≡ content_ok d → c ≡ d
 same_content c d e = cc
 
-pub loads_found : (r : Result Seen FileError) (bytes : List ℕ) → Loads r bytes → (c : Content) → file_of bytes ≡ Ok c → IsOkAnd r (λ s. s ≡ seen_in c) ⊎ (r ≡ Err OutOfMemory)
+loads_found : (r : Result Seen FileError) (bytes : List ℕ) → Loads r bytes → (c : Content) → file_of bytes ≡ Ok c → IsOkAnd r (λ s. s ≡ seen_in c) ⊎ (r ≡ Err OutOfMemory)
 loads_found (Ok s) bytes h c e = inl (h.2.0 ∙ ap seen_in (same_content h.0 c (sym h.1 ∙ e)))
 loads_found (Err (Damaged at)) bytes h c e = absurd (not_both (file_of bytes) c at e h)
 loads_found (Err OutOfMemory) bytes h c e = inr refl
 
 -- in the words of files
-pub loads_file : (r : Result Seen FileError) (bytes : List ℕ) → IsBytes bytes → Loads r bytes → IfOk r (λ s. (c : Content) × IsFile bytes c × (s ≡ seen_in c))
+loads_file : (r : Result Seen FileError) (bytes : List ℕ) → IsBytes bytes → Loads r bytes → IfOk r (λ s. (c : Content) × IsFile bytes c × (s ≡ seen_in c))
 loads_file (Ok s) bytes b h = (h.0, file_takes bytes h.0 b h.1, h.2.0)
 loads_file (Err e) bytes b h = tt
 
-pub loads_every : (r : Result Seen FileError) (bytes : List ℕ) → Loads r bytes → (c : Content) → IsFile bytes c → IsOkAnd r (λ s. s ≡ seen_in c) ⊎ (r ≡ Err OutOfMemory)
+loads_every : (r : Result Seen FileError) (bytes : List ℕ) → Loads r bytes → (c : Content) → IsFile bytes c → IsOkAnd r (λ s. s ≡ seen_in c) ⊎ (r ≡ Err OutOfMemory)
 loads_every r bytes h c f = loads_found r bytes h c (file_reads bytes c f)
 
 loaded_stands : (s : Seen) (c : Content) (bytes : List ℕ) (t : State) → file_of bytes ≡ Ok c → IsLoaded s c → FileStandsFor bytes t → StandsFor s t
 loaded_stands s c bytes t e l (inl f) = subst (StandsFrom s) (same_content c (Journal t) (sym e ∙ f)) l.1
 loaded_stands s c bytes t e l (inr f) = subst (StandsFrom s) (same_content c (Snapshot f.1.0 (parts t)) (sym e ∙ f.1.1)) l.1 t f.0 refl
 
-pub loads_stands : (r : Result Seen FileError) (bytes : List ℕ) → Loads r bytes → IfOk r (λ s. (t : State) → FileStandsFor bytes t → StandsFor s t)
+loads_stands : (r : Result Seen FileError) (bytes : List ℕ) → Loads r bytes → IfOk r (λ s. (t : State) → FileStandsFor bytes t → StandsFor s t)
 loads_stands (Ok s) bytes h = λ t f. loaded_stands s h.0 bytes t h.1 h.2 f
 loads_stands (Err e) bytes h = tt
 
@@ -171,6 +171,18 @@ pub loaded_writable : LoadedIsWritable
 loaded_writable bytes (Journal t) f = (let opened = journal_opens t f.0 in (opened.sane, opened.writable))
 loaded_writable bytes (Snapshot form p) f = (snapshot_sane form p f.0 f.1, snapshot_writable form p f.0 f.1)
 
-pub loads_writable : (r : Result Seen FileError) (bytes : List ℕ) → IsBytes bytes → Loads r bytes → IfOk r AreWritable
+loads_writable : (r : Result Seen FileError) (bytes : List ℕ) → IsBytes bytes → Loads r bytes → IfOk r AreWritable
 loads_writable (Ok s) bytes b h = subst AreWritable (sym h.2.0) (loaded_writable bytes h.0 (file_takes bytes h.0 b h.1)).1
 loads_writable (Err e) bytes b h = tt
+
+-- what the bytes say is what loading them answers
+pub loads_bytes : (r : Result Seen FileError) (bytes : List ℕ) → IsBytes bytes → Loads r bytes → LoadsBytes r bytes
+loads_bytes r bytes b h = record {
+  ok = loads_ok r bytes h;
+  damaged = loads_damaged r bytes h;
+  found = loads_found r bytes h;
+  file = loads_file r bytes b h;
+  every_file = loads_every r bytes h;
+  writable = loads_writable r bytes b h;
+  stands = loads_stands r bytes h;
+}

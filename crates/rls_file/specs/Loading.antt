@@ -1,5 +1,5 @@
 -- What loading a file answers.
-use Rattle.std.specs.Prelude.{◌≡◌, ℕ, ◌-◌, ◌⊎◌, List, nat_lt, Result, Ok, Err}
+use Rattle.std.specs.Prelude.{◌≡◌, ℕ, ◌-◌, ◌⊎◌, List, nat_lt, Result, Ok, Err, IfOk, IsOkAnd}
 use Rattle.std.specs.Int.{w32, w64}
 use Rattle.rls_codec.specs.declared.fault.ReadError.{ReadError}
 use Rattle.rls_codec.specs.declared.fault.ReadError.TheVariants as read
@@ -15,8 +15,10 @@ use Rattle.rls_parts.specs.Given.{AreGiven}
 use Rattle.rls_parts.specs.Restored.{seen_of}
 use Rattle.rls_fields.specs.ReadingFields.{snapshot_at}
 use Rattle.rls_file.specs.Files.{Content, Journal, Snapshot}
+use Rattle.rls_file.specs.FileLaws.{IsFile}
 use Rattle.rls_file.specs.Journals.{seen_with}
 use Rattle.rls_file.specs.ReadingFiles.{file_at, file_of}
+use Rattle.rls_file.specs.Stored.{AreWritable}
 use Rattle.rls_file.specs.declared.loading.FileError.{FileError}
 use Rattle.rls_file.specs.declared.loading.FileError.TheVariants.{Damaged, OutOfMemory}
 use Rattle.rls_file.specs.declared.loading.FileRead.{FileRead}
@@ -77,3 +79,17 @@ IsGiven (found.Snapshot form p) = AreGiven p
 -- the bytes are the journal of this state, or a snapshot of it, which is legal
 abbrev pub FileStandsFor : List ℕ → State → Type 0
 FileStandsFor bytes t = (file_of bytes ≡ Ok (Journal t)) ⊎ (IsLegal t.history × ((form : ℕ) × (file_of bytes ≡ Ok (Snapshot form (parts t)))))
+
+-- what loading these bytes answers
+pub record LoadsBytes (result : Result Seen FileError) (bytes : List ℕ) : Type 0 where
+  pub ok : IfOk result (λ r. (c : Content) × (file_of bytes ≡ Ok c) × (r ≡ seen_in c))
+  pub damaged : (at : ℕ) → result ≡ Err (Damaged at) → file_of bytes ≡ Err at
+  -- it is Ok wherever the bytes are a file, unless memory runs out
+  pub found : (c : Content) → file_of bytes ≡ Ok c → IsOkAnd result (λ r. r ≡ seen_in c) ⊎ (result ≡ Err OutOfMemory)
+  -- in the words of files: what is loaded is one, and each that is one is loaded, unless memory runs out
+  pub file : IfOk result (λ r. (c : Content) × IsFile bytes c × (r ≡ seen_in c))
+  pub every_file : (c : Content) → IsFile bytes c → IsOkAnd result (λ r. r ≡ seen_in c) ⊎ (result ≡ Err OutOfMemory)
+  -- it may be written again, also if nobody has written the file
+  pub writable : IfOk result (λ r. AreWritable r)
+  -- for every history and waiting operations of which the bytes are a file
+  pub stands : IfOk result (λ r. (t : State) → FileStandsFor bytes t → StandsFor r t)

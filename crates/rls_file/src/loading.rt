@@ -1,17 +1,13 @@
 //! Loading a replica.
 
-ghost use Rattle.std.specs.Prelude.{◌≡◌, ◌<◌, ◌-◌, ◌^◌, ◌⊎◌, ℕ, List, length, IfOk, IsOkAnd, Ok, Err};
+ghost use Rattle.std.specs.Prelude.{◌≡◌, ◌<◌, ◌-◌, ◌^◌, ℕ, List, length, IfOk, Ok, Err};
 ghost use Rattle.rls_codec.specs.CodecLaws.{IsBytes};
 ghost use Rattle.rls_codec.specs.Gives.{Gives};
-ghost use Rattle.rls_model.specs.Receiving.{State};
 ghost use Rattle.rls_parts.specs.Given.{AreGiven};
-ghost use Rattle.rls_seen.specs.Stands.{StandsFor};
-ghost use Rattle.rls_file.specs.Files.{Content, Snapshot};
-ghost use Rattle.rls_file.specs.FileLaws.{IsFile};
-ghost use Rattle.rls_file.specs.ReadingFiles.{file_at, file_of, form_at};
+ghost use Rattle.rls_file.specs.Files.{Snapshot};
+ghost use Rattle.rls_file.specs.ReadingFiles.{file_at, form_at};
 ghost use Rattle.rls_file.specs.ReadingJournals.{after_form_at};
-ghost use Rattle.rls_file.specs.Stored.{AreWritable};
-ghost use Rattle.rls_file.specs.Loading.{snapshot_behind, damage_of, seen_in, ReadsParts, HasRead, IsGiven, Loads, FileStandsFor};
+ghost use Rattle.rls_file.specs.Loading.{snapshot_behind, damage_of, ReadsParts, HasRead, IsGiven, Loads, LoadsBytes};
 
 use crate::{form, journal};
 use rls_codec::{ReadError, give_back, member, member_count, u64_at};
@@ -173,21 +169,7 @@ fn load_bytes(alloc: Global, bytes: Vec<u8>) -> Result<Replica, FileError>
 ///
 /// `Damaged` with the place of the first fault exactly where the bytes are no file, and `OutOfMemory` for want of memory alone.
 pub fn decode_file(alloc: Global, bytes: &[u8]) -> Result<Replica, FileError>
-    ensures ok { IfOk result (λ r. (c : Content) × (file_of bytes.now ≡ Ok c) × (r ≡ seen_in c)) }
-    ensures damaged { (at : ℕ) → result ≡ Err (FileError.Damaged at) → file_of bytes.now ≡ Err at }
-
-    // It is Ok wherever the bytes are a file, unless memory runs out.
-    ensures found { (c : Content) → file_of bytes.now ≡ Ok c → IsOkAnd result (λ r. r ≡ seen_in c) ⊎ (result ≡ Err FileError.OutOfMemory) }
-
-    // In the words of files: what is loaded is one, and each that is one is loaded, unless memory runs out.
-    ensures file { IfOk result (λ r. (c : Content) × IsFile bytes.now c × (r ≡ seen_in c)) }
-    ensures every_file { (c : Content) → IsFile bytes.now c → IsOkAnd result (λ r. r ≡ seen_in c) ⊎ (result ≡ Err FileError.OutOfMemory) }
-
-    // It may be written again, also if nobody has written the file.
-    ensures writable { IfOk result (λ r. AreWritable r) }
-
-    // For every history and waiting operations of which the bytes are a file.
-    ensures stands { IfOk result (λ r. (t : State) → FileStandsFor bytes.now t → StandsFor r t) }
+    ensures loads { LoadsBytes result bytes.now }
 {
     load(alloc, bytes)
 }
@@ -199,21 +181,7 @@ pub fn decode_file(alloc: Global, bytes: &[u8]) -> Result<Replica, FileError>
 ///
 /// As those of `decode_file`.
 pub fn load_file(alloc: Global, bytes: Vec<u8>) -> Result<Replica, FileError>
-    ensures ok { IfOk result (λ r. (c : Content) × (file_of bytes.items ≡ Ok c) × (r ≡ seen_in c)) }
-    ensures damaged { (at : ℕ) → result ≡ Err (FileError.Damaged at) → file_of bytes.items ≡ Err at }
-
-    // It is Ok wherever the bytes are a file, unless memory runs out.
-    ensures found { (c : Content) → file_of bytes.items ≡ Ok c → IsOkAnd result (λ r. r ≡ seen_in c) ⊎ (result ≡ Err FileError.OutOfMemory) }
-
-    // In the words of files: what is loaded is one, and each that is one is loaded, unless memory runs out.
-    ensures file { IfOk result (λ r. (c : Content) × IsFile bytes.items c × (r ≡ seen_in c)) }
-    ensures every_file { (c : Content) → IsFile bytes.items c → IsOkAnd result (λ r. r ≡ seen_in c) ⊎ (result ≡ Err FileError.OutOfMemory) }
-
-    // It may be written again, also if nobody has written the file.
-    ensures writable { IfOk result (λ r. AreWritable r) }
-
-    // For every history and waiting operations of which the bytes are a file.
-    ensures stands { IfOk result (λ r. (t : State) → FileStandsFor bytes.items t → StandsFor r t) }
+    ensures loads { LoadsBytes result bytes.items }
 {
     load_bytes(alloc, bytes)
 }

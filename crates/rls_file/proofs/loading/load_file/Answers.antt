@@ -1,23 +1,5 @@
-use Rattle.rls_file.proofs.Loaded.{loads_ok, loads_damaged, loads_every, loads_file, loads_found, loads_stands, loads_writable}
+use Rattle.rls_file.proofs.Loaded.{loads_bytes}
 use Rattle.rls_file.proofs.loading.load_file.Goals as goal
 
-pub returns-clause-ok : goal.returns-clause-ok
-returns-clause-ok c = loads_ok c.load_bytes.result c.args.bytes.items c.load_bytes.ensures.loads
-
-pub returns-clause-damaged : goal.returns-clause-damaged
-returns-clause-damaged c = loads_damaged c.load_bytes.result c.args.bytes.items c.load_bytes.ensures.loads
-
-pub returns-clause-found : goal.returns-clause-found
-returns-clause-found c = loads_found c.load_bytes.result c.args.bytes.items c.load_bytes.ensures.loads
-
-pub returns-clause-file : goal.returns-clause-file
-returns-clause-file c = loads_file c.load_bytes.result c.args.bytes.items c.load_bytes.ensures.bytes c.load_bytes.ensures.loads
-
-pub returns-clause-every_file : goal.returns-clause-every_file
-returns-clause-every_file c = loads_every c.load_bytes.result c.args.bytes.items c.load_bytes.ensures.loads
-
-pub returns-clause-stands : goal.returns-clause-stands
-returns-clause-stands c = loads_stands c.load_bytes.result c.args.bytes.items c.load_bytes.ensures.loads
-
-pub returns-clause-writable : goal.returns-clause-writable
-returns-clause-writable c = loads_writable c.load_bytes.result c.args.bytes.items c.load_bytes.ensures.bytes c.load_bytes.ensures.loads
+pub returns : goal.returns
+returns c = record { loads = loads_bytes _ _ c.load_bytes.ensures.bytes c.load_bytes.ensures.loads }

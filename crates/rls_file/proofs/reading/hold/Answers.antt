@@ -17,33 +17,30 @@ returns-in_err-op c = record {
 pub returns-then-not-comes_last : goal.returns-then-not-comes_last
 returns-then-not-comes_last c = record {
   read = λ t h.
-      let o = c.in_ok-op.op in
       let same = c.members.ensures.members ∙ members_alike c.args.replica.now t h.stands in
-      let behind = ap (λ W. waits_behind (last_of W) o) (sym (c.held.ensures.held ∙ h.stands.waiting)) ∙ sym c.comes_last.ensures.last ∙ c.if-not-comes_last.true in
-      hold_before t c.members.result c.args.bytes.now c.in_ok-op.rest.now o h.stands.sound same c.in_ok-op.ensures.read behind;
+      let behind = ap (λ W. waits_behind (last_of W) c.in_ok-op.op) (sym (c.held.ensures.held ∙ h.stands.waiting)) ∙ sym c.comes_last.ensures.last ∙ c.if-not-comes_last.true in
+      hold_before t _ _ _ _ h.stands.sound same c.in_ok-op.ensures.read behind;
 }
 
 pub returns-then-not-is_held : goal.returns-then-not-is_held
 returns-then-not-is_held c = record {
   read = λ t h.
-      let o = c.in_ok-op.op in
       let same = c.members.ensures.members ∙ members_alike c.args.replica.now t h.stands in
-      let behind = ap (λ W. waits_behind (last_of W) o) (sym (c.held.ensures.held ∙ h.stands.waiting)) ∙ sym c.comes_last.ensures.last ∙ c.if-not-comes_last.false in
+      let behind = ap (λ W. waits_behind (last_of W) c.in_ok-op.op) (sym (c.held.ensures.held ∙ h.stands.waiting)) ∙ sym c.comes_last.ensures.last ∙ c.if-not-comes_last.false in
       let law = c.in_ok-receive.ensures.stands t h.stands in
-      hold_other t c.members.result c.args.bytes.now c.in_ok-op.rest.now o h.stands.sound same c.in_ok-op.ensures.read behind (ap waits (sym law.0) ∙ sym c.is_held.ensures.held ∙ c.if-not-is_held.true);
+      hold_other _ _ _ _ _ h.stands.sound same c.in_ok-op.ensures.read behind (ap waits (sym law.0) ∙ sym c.is_held.ensures.held ∙ c.if-not-is_held.true);
 }
 
 pub returns : goal.returns
 returns c = record {
   read = λ t h.
-      let o = c.in_ok-op.op in
       let e = c.in_ok-receive.ensures in
       let same = c.members.ensures.members ∙ members_alike c.args.replica.now t h.stands in
-      let behind = ap (λ W. waits_behind (last_of W) o) (sym (c.held.ensures.held ∙ h.stands.waiting)) ∙ sym c.comes_last.ensures.last ∙ c.if-not-comes_last.false in
+      let behind = ap (λ W. waits_behind (last_of W) c.in_ok-op.op) (sym (c.held.ensures.held ∙ h.stands.waiting)) ∙ sym c.comes_last.ensures.last ∙ c.if-not-comes_last.false in
       let law = e.stands t h.stands in
       let held = ap waits (sym law.0) ∙ sym c.is_held.ensures.held ∙ c.if-not-is_held.false in (
-        t.waiting ++ o ∷ [],
-        hold_done t c.members.result c.args.bytes.now c.in_ok-op.rest.now o h.stands.sound same c.in_ok-op.ensures.read behind held,
-        holds t c.args.replica.now c.receive.new.self o h e.after (sym e.answer ∙ law.0) behind held law.1,
+        t.waiting ++ c.in_ok-op.op ∷ [],
+        hold_done _ _ _ _ _ h.stands.sound same c.in_ok-op.ensures.read behind held,
+        holds _ _ _ _ h e.after (sym e.answer ∙ law.0) behind held law.1,
       );
 }
