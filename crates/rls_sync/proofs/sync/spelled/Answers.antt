@@ -17,8 +17,8 @@ put_ops-requires-clause-few c =
     let less = few_sent s c.args.to few in
     omega (arith, less, ap (λ (os : List Op). length os) sent)
 
-bytes : goal.returns-clause-bytes
-bytes c =
+pub returns-clause-bytes : goal.returns-clause-bytes
+returns-clause-bytes c =
     let s = c.args.replica.now in
     let few = c.sane.ensures.sane.few in
     let ops = missing_for c.in_ok-known.known (take c.reach-end.result c.logged-log.result.now) in
@@ -27,8 +27,5 @@ bytes c =
     ∙ ap (λ (w : List ℕ). w ++ counted op_bytes ops) (c.in_ok-put_start.ensures.ok ∙ ap (λ (w : List ℕ). w ++ start_of s) c.in_ok-out.ensures.items)
     ∙ message_put s c.args.to ops sent
 
-pub returns-clause-bytes : goal.returns-clause-bytes
-returns-clause-bytes c = bytes c
-
 pub returns-clause-message : goal.returns-clause-message
-returns-clause-message c = λ few. let s = c.args.replica.now in sent_message s c.args.to c.put_ops.new.out.items c.sane.ensures.sane (bytes c) (subst (All IsSpelledIfFit) c.logged-log.ensures.log c.fits.ensures.spelled) few
+returns-clause-message c = λ few. let s = c.args.replica.now in sent_message s c.args.to c.put_ops.new.out.items c.sane.ensures.sane (returns-clause-bytes c) (subst (All IsSpelledIfFit) c.logged-log.ensures.log c.fits.ensures.spelled) few

@@ -11,9 +11,7 @@ returns-in-Ok-take-clause-taken c =
 
 pub returns-in-Err-OtherGroup-clause-other_group : goal.returns-in-Err-OtherGroup-clause-other_group
 returns-in-Err-OtherGroup-clause-other_group c = λ g n h.
-    let group = c.in-Err-OtherGroup.group in
-    let members = c.in-Err-OtherGroup.members in
     let e = c.in-Err-OtherGroup.ensures in
     let is = ap refused c.in-Err-OtherGroup.field-0-is in
-    let numbers = (e.other_group group members).0 is in
-    (c.in-Ok.message, c.in-Ok.ensures.decoded, numbers.2, same_group group members g n h ∙ numbers.0, same_members group members g n h ∙ numbers.1, e.foreign group members is)
+    let numbers = (e.other_group _ _).0 is in
+    (c.in-Ok.message, c.in-Ok.ensures.decoded, numbers.2, same_group _ _ g n h ∙ numbers.0, same_members _ _ g n h ∙ numbers.1, e.foreign _ _ is)
