@@ -34,7 +34,7 @@ use Rattle.rls_undo.specs.declared.entry.Entry as undo
 use Rattle.rls_undo.specs.declared.entry.Entry.TheVariants.{Inserted, Removed}
 use Rattle.rls_undo.specs.Plans.{entries_by, gone_by}
 use Rattle.rls_undo.specs.Undoing.{planned_over, performed_over, refusal_over, entries_over}
-use Rattle.rls_undo.specs.UndoLaws.{BackAtOnce, IsEntry}
+use Rattle.rls_undo.specs.UndoLaws.{AreWhole, BackAtOnce, IsEntry}
 use Rattle.rls_undo.proofs.Counting.{count_split}
 use Rattle.rls_undo.proofs.Performed.{undone}
 
@@ -185,22 +185,37 @@ back_at_once s edits.Leave entry sane w i f h k = absurd (leave_none s entry h)
 
 -- ---- the entry that is made
 
-pub inserted_entry : (s : Seen) (edit : Edit) (at : ℕ) (cs : List ℕ) (o : Op) (es : List undo.Entry) → o ≡ made_over s edit → edit ≡ edits.Insert at cs
-    → ((first : List Tuple) (ds : List ℕ) → o.body ≡ Insert first ds → es ≡ entries_by o.epoch o.body []) → es ≡ entries_over s edit
+pub inserted_entry : (s : Seen) (edit : Edit) (at : ℕ) (cs : List ℕ) (o : Op) (P : List undo.Entry → Type 0) → o ≡ made_over s edit → edit ≡ edits.Insert at cs
+    → ((first : List Tuple) (ds : List ℕ) → o.body ≡ Insert first ds → P (entries_by o.epoch o.body [])) → P (entries_over s edit)
 unfolding entries_over
-inserted_entry s edit at cs o es m is f =
+inserted_entry s edit at cs o P m is f =
     let made : o ≡ made_over s (edits.Insert at cs) = m ∙ ap (made_over s) is in
-    f (first_made s at (length cs)) cs (ap (λ (p : Op). p.body) made ∙ insert_made s at cs)
-    ∙ (ap (λ (p : Op). entries_by p.epoch p.body []) made ∙ ap (λ e. entries_by (made_over s e).epoch (made_over s e).body (gone_by e (text_over s))) (sym is))
+    subst P (ap (λ (p : Op). entries_by p.epoch p.body []) made ∙ ap (λ e. entries_by (made_over s e).epoch (made_over s e).body (gone_by e (text_over s))) (sym is))
+    (f (first_made s at (length cs)) cs (ap (λ (p : Op). p.body) made ∙ insert_made s at cs))
 
-pub deleted_entry : (s : Seen) (edit : Edit) (at n : ℕ) (gone : List ℕ) (o : Op) (es : List undo.Entry) → o ≡ made_over s edit → edit ≡ edits.Delete at n → gone ≡ take n (drop at (text_over s))
-    → ((targets : List (List Tuple)) → o.body ≡ Delete targets → es ≡ entries_by o.epoch o.body gone) → es ≡ entries_over s edit
+pub deleted_entry : (s : Seen) (edit : Edit) (at n : ℕ) (gone : List ℕ) (o : Op) (P : List undo.Entry → Type 0) → o ≡ made_over s edit → edit ≡ edits.Delete at n → gone ≡ take n (drop at (text_over s))
+    → ((targets : List (List Tuple)) → o.body ≡ Delete targets → P (entries_by o.epoch o.body gone)) → P (entries_over s edit)
 unfolding entries_over
-deleted_entry s edit at n gone o es m is g f =
+deleted_entry s edit at n gone o P m is g f =
     let made : o ≡ made_over s (edits.Delete at n) = m ∙ ap (made_over s) is in
-    f (take n (drop at (idents_over s))) (ap (λ (p : Op). p.body) made ∙ delete_made s at n)
-    ∙ (ap (λ (p : Op). entries_by p.epoch p.body gone) made
+    subst P (ap (λ (p : Op). entries_by p.epoch p.body gone) made
     ∙ (ap (entries_by (made_over s (edits.Delete at n)).epoch (made_over s (edits.Delete at n)).body) g ∙ ap (λ e. entries_by (made_over s e).epoch (made_over s e).body (gone_by e (text_over s))) (sym is)))
+    (f (take n (drop at (idents_over s))) (ap (λ (p : Op). p.body) made ∙ delete_made s at n))
+
+pub whole_by : (e : EpochName) (b : Body) (gone : List ℕ) → IsText gone → AreWhole (entries_by e b gone)
+whole_by e (Insert x cs) gone h = (tt, tt)
+whole_by e (Delete (x ∷ xs)) gone h = (h, tt)
+whole_by e _ gone h = tt
+
+few_by : (e : EpochName) (b : Body) (gone : List ℕ) → length (entries_by e b gone) ≤ 1
+few_by e (Insert x cs) gone = omega arith
+few_by e (Delete (x ∷ xs)) gone = omega arith
+few_by e _ gone = omega arith
+
+-- an edit leaves one entry at most
+pub entries_few : (s : Seen) (edit : Edit) → length (entries_over s edit) ≤ 1
+unfolding entries_over
+entries_few s edit = few_by (made_over s edit).epoch (made_over s edit).body (gone_by edit (text_over s))
 
 pub rename_entry : (s : Seen) (edit : Edit) → edit ≡ edits.Rename → [] ≡ entries_over s edit
 unfolding entries_over made_over

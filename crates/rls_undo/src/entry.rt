@@ -1,5 +1,8 @@
 //! What is kept of an edit, so that it can be undone.
 
+ghost use Rattle.std.specs.Prelude.{◌≡◌};
+ghost use Rattle.rls_undo.specs.Plans.{epoch_in};
+
 use rls_ident::{EpochName, Ident};
 use rls_runs::{Runs, Text};
 
@@ -17,4 +20,15 @@ pub enum Entry {
         first: Ident,
         text: Text,
     },
+}
+
+impl Entry {
+    /// Its epoch.
+    pub(crate) fn epoch(&self) -> EpochName
+        ensures epoch { result ≡ epoch_in self.now }
+    {
+        match self {
+            Entry::Inserted { epoch, .. } | Entry::Removed { epoch, .. } => *epoch,
+        }
+    }
 }

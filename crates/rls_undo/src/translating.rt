@@ -9,7 +9,7 @@ ghost use Rattle.rls_undo.specs.Translations.{IsKnown, IsRight, LiesAt};
 ghost use Rattle.rls_undo.specs.Undoing.{settled_over};
 
 use crate::entry::Entry;
-use crate::recording::epoch_of;
+use crate::kept::{KeptEntries, only_run};
 use rls_ident::{EpochName, Ident, rely};
 use rls_replica::Replica;
 use rls_runs::{Run, Runs};
@@ -58,18 +58,16 @@ impl Translation {
 }
 
 /// The entries at the greatest epoch, where their own are kept.
-pub(crate) fn settled(
-    alloc: Global,
-    replica: &Replica,
-    entries: &[Entry],
-) -> Result<Vec<Entry>, AllocError>
-    ensures settled { IfOk result (λ es. es.items ≡ map (settled_over replica.now) entries.now) }
+pub(crate) fn settled(replica: &Replica, entries: &KeptEntries) -> Result<KeptEntries, AllocError>
+    ensures settled { IfOk result (λ there. there ≡ map (settled_over replica.now) entries.now) }
 {
-    let mut there = Vec::with_capacity(alloc, entries.len())?;
+    let alloc = entries.alloc();
+    let mut there = KeptEntries::new(alloc);
     let mut known = None;
     for i in 0..entries.len() {
         known = translation_for(alloc, replica, entries, i, known)?;
-        there.push(settled_entry(alloc, replica, &entries[i], &known)?)?;
+        let entry = entries.get(i)?;
+        there.push(settled_entry(alloc, replica, entry, &known)?)?;
     }
     Ok(there)
 }
@@ -78,24 +76,23 @@ pub(crate) fn settled(
 fn settled_entry(
     alloc: Global,
     replica: &Replica,
-    entry: &Entry,
+    entry: Entry,
     known: &Option<Translation>,
 ) -> Result<Entry, AllocError>
     requires known { IsKnown replica.now known.now }
-    ensures settled { IfOk result (λ e. e ≡ settled_over replica.now entry.now) }
+    ensures settled { IfOk result (λ e. e ≡ settled_over replica.now entry) }
 {
     let greatest = replica.greatest();
     match entry {
         Entry::Inserted { epoch, ids } => {
-            let ids = ids_there(alloc, replica, known, *epoch, ids)?;
+            let ids = ids_there(alloc, replica, known, epoch, &ids)?;
             Ok(Entry::Inserted {
                 epoch: greatest,
                 ids,
             })
         }
         Entry::Removed { epoch, first, text } => {
-            let first = ident_there(replica, known, *epoch, first)?;
-            let text = text.copy()?;
+            let first = ident_there(replica, known, epoch, &first)?;
             Ok(Entry::Removed {
                 epoch: greatest,
                 first,
@@ -174,7 +171,7 @@ fn part_known(
 fn translation_for(
     alloc: Global,
     replica: &Replica,
-    entries: &[Entry],
+    entries: &KeptEntries,
     at: usize,
     known: Option<Translation>,
 ) -> Result<Option<Translation>, AllocError>
@@ -182,14 +179,15 @@ fn translation_for(
     requires known { IsKnown replica.now known }
     ensures known { IfOk result (λ known. IsKnown replica.now known) }
 {
-    let Some(run) = run_of(&entries[at])? else {
+    rely!(let _len = entries.len());
+    let Some(run) = entries.run(at)? else {
         return Ok(known);
     };
-    let epoch = epoch_of(&entries[at]);
+    let epoch = entries.epoch(at);
     if is_held(&known, epoch, &run) {
         return Ok(known);
     }
-    let whole = with_next(run, epoch, &entries[at + 1..])?;
+    let whole = with_next(run, epoch, entries, at + 1)?;
     let next = translated(alloc, replica, epoch, whole)?;
     Ok(Some(next))
 }
@@ -218,11 +216,16 @@ fn is_held(known: &Option<Translation>, epoch: EpochName, run: &Run) -> bool {
     }
 }
 
-// A run of an epoch, and those of entries, as far as these are of that epoch and lie in it or go on with it at one of its ends.
-fn with_next(run: Run, epoch: EpochName, entries: &[Entry]) -> Result<Run, AllocError> {
+// A run of an epoch, and those of the entries from a place on, as far as these are of that epoch and lie in it or go on with it at one of its ends.
+fn with_next(
+    run: Run,
+    epoch: EpochName,
+    entries: &KeptEntries,
+    from: usize,
+) -> Result<Run, AllocError> {
     let mut whole = run;
-    for entry in entries {
-        let Some(longer) = with_entry(&whole, epoch, entry)? else {
+    for at in from..entries.len() {
+        let Some(longer) = with_entry(&whole, epoch, entries, at)? else {
             return Ok(whole);
         };
         whole = longer;
@@ -231,11 +234,18 @@ fn with_next(run: Run, epoch: EpochName, entries: &[Entry]) -> Result<Run, Alloc
 }
 
 // A run and that of an entry as one, if they are.
-fn with_entry(run: &Run, epoch: EpochName, entry: &Entry) -> Result<Option<Run>, AllocError> {
-    if !epoch.same(&epoch_of(entry)) {
+fn with_entry(
+    run: &Run,
+    epoch: EpochName,
+    entries: &KeptEntries,
+    at: usize,
+) -> Result<Option<Run>, AllocError>
+    requires at { at < length entries.now }
+{
+    if !epoch.same(&entries.epoch(at)) {
         return Ok(None);
     }
-    match run_of(entry)? {
+    match entries.run(at)? {
         None => Ok(None),
         Some(next) => with_run(run, &next),
     }
@@ -265,28 +275,7 @@ fn run_if(first: Ident, len: u32) -> Result<Option<Run>, AllocError> {
     }
 }
 
-// The one run of an entry's identifiers, if they are one.
-fn run_of(entry: &Entry) -> Result<Option<Run>, AllocError> {
-    match entry {
-        Entry::Inserted { ids, .. } => match only_run(ids) {
-            None => Ok(None),
-            Some(run) => some_of(run.copy()),
-        },
-        Entry::Removed { first, .. } => run_if(first.copy()?, 1),
-    }
-}
-
 fn some_of(run: Result<Run, AllocError>) -> Result<Option<Run>, AllocError> {
     let run = run?;
     Ok(Some(run))
-}
-
-// The one run of a list, if it is one.
-fn only_run(ids: &Runs) -> Option<&Run>
-    ensures run { IfSome result (λ run. ids.now ≡ run_idents run.now.0 run.now.1) }
-{
-    if ids.run_count() != 1 {
-        return None;
-    }
-    Some(ids.run(0))
 }
