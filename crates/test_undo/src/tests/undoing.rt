@@ -75,9 +75,14 @@ fn skip(alloc: Global, undo: &mut Undo) -> Result<String, AllocError> {
     format!(in alloc; "{some}")
 }
 
+fn keep(alloc: Global, undo: &mut Undo, n: u64) -> Result<String, AllocError> {
+    undo.keep_last(n as usize);
+    String::from_str(alloc, "kept")
+}
+
 impl Undoers {
-    /// What is done with entries, or with the anchor: `edit` with an edit after it, which keeps an entry, `undo` and `skip`;
-    /// `settle entries` and `settle anchor`.
+    /// What is done with entries, or with the anchor: `edit` with an edit after it, which keeps an entry, `undo`, `skip` and
+    /// `keep 2`, by which the last two are left; `settle entries` and `settle anchor`.
     fn enter(&mut self, alloc: Global, words: &'static str) -> Result<String, Fail> {
         let (verb, rest) = word(words);
         match verb {
@@ -87,6 +92,7 @@ impl Undoers {
             }
             "undo" => Ok(text_of_undone(alloc, self.undo.undo(&mut self.members.first))?),
             "skip" => Ok(skip(alloc, &mut self.undo)?),
+            "keep" => Ok(keep(alloc, &mut self.undo, number(rest)?.0)?),
             "settle" => Ok(text_of_settled(alloc, self.settle(rest))?),
             _ => self.point(alloc, words),
         }
@@ -210,6 +216,41 @@ const UNDONE_NOT_ALL_THE_WAY: &[Row] = &[
     "undo | 1 2 | helloc",
 ];
 
+/// Entries whose identifiers differ in nothing but the last offset are undone one after another, across a deletion, when the first of
+/// them are let go, and when they are settled after a rename, also one that takes their identifiers apart.
+const ENTRIES_OF_ONE_BASE: &[Row] = &[
+    "edit insert 0 ab | 1 | ab",
+    "edit insert 2 c | 2 | abc",
+    "edit delete 2 1 | 3 | ab",
+    "edit insert 2 d | 4 | abd",
+    "undo | 1 1 | ab",
+    "undo | 1 1 | abc",
+    "undo | 0 0 | abc",
+    "undo | 1 2 | c",
+    "undo | Nothing | c",
+    "edit insert 1 de | 8 | cde",
+    "edit insert 3 f | 9 | cdef",
+    "edit insert 4 g | 10 | cdefg",
+    "keep 2 | kept | cdefg",
+    "edit delete 4 1 | 11 | cdef",
+    "pass rename | 12 | cdef",
+    "settle entries | Ok(()) | cdef",
+    "undo | 1 1 | cdefg",
+    "undo | 0 0 | cdefg",
+    "undo | 1 1 | cdeg",
+    "undo | Nothing | cdeg",
+    "edit insert 4 XY | 15 | cdegXY",
+    "give | true | cdegXY",
+    "other insert 5 z | 1 | cdegXY",
+    "take | true | cdegXzY",
+    "pass rename | 16 | cdegXzY",
+    "settle entries | Ok(()) | cdegXzY",
+    "edit insert 7 ! | 17 | cdegXzY!",
+    "skip | true | cdegXzY!",
+    "undo | 2 2 | cdegz!",
+    "undo | Nothing | cdegz!",
+];
+
 /// A cursor stays with its character, and at the character's place once that is gone.
 const ANCHORS_STAY: &[Row] = &[
     "pass insert 0 hello | 1 | hello",
@@ -315,6 +356,7 @@ const TABLES: &[(u32, &[Row])] = &[
     (2, INSERTIONS_ARE_UNDONE),
     (2, DELETIONS_ARE_UNDONE),
     (2, UNDONE_NOT_ALL_THE_WAY),
+    (2, ENTRIES_OF_ONE_BASE),
     (2, ANCHORS_STAY),
     (2, ANCHORS_ARE_RENAMED),
     (2, ANCHORS_STAY_BEFORE),
