@@ -2,6 +2,7 @@
 use Rattle.std.proofs.Common.{◌≡◌, ℕ, zero, suc, ◌+◌, ◌-◌, ◌≤◌, ◌<◌, Bool, true, false, List, [], ◌∷◌, ◌++◌, map, length, take, drop, refl, sym, ap, ◌∙◌, subst, arith, inl, inr, ⊎_elim}
 use Rattle.std.specs.Prelude.{not, pos, slice_get, Option, Some, None, nat_lt, if◌then◌else◌}
 use Rattle.std.proofs.lemmas.List.{take-append-drop, length-map, length-drop, length-take-le}
+use Rattle.std.proofs.lemmas.Option.{slice_get_past}
 use Rattle.rls_ident.specs.declared.tuple.Tuple.{Tuple}
 use Rattle.rls_ident.specs.declared.epoch_name.EpochName.{EpochName}
 use Rattle.rls_ident.specs.declared.epoch_name.EpochName.TheVariants.{Origin}
@@ -113,11 +114,6 @@ made_at s (suc k) sane h =
     let same = translate_same s.epochs.nodes (greatest_over s) g.0 sane.epochs.nodes i in
     ap (λ o. place_over s (behind (greatest_over s) o)) g.1 ∙ (ap (count_upto xs) same ∙ upto_at xs k g.0 (rising_of xs sane.idents.1) g.1)
 
-none_there : {A : Type 0} (xs : List A) (k : ℕ) → length xs ≤ k → slice_get xs k ≡ None
-none_there [] k h = refl
-none_there (x ∷ xs) zero h = absurd (omega arith)
-none_there (x ∷ xs) (suc k) h = none_there xs k (omega arith)
-
 pub made_before : (s : Seen) (at : ℕ) → IsSane s → at ≤ length s.text → place_over s (anchor_before_over s at) ≡ at
 unfolding place_over
 made_before s at sane h =
@@ -132,7 +128,7 @@ made_before s at sane h =
         ap (λ o. place_over s (in_front (greatest_over s) o (anchor_over s at))) g.1 ∙ (ap (below_count xs) same ∙ at_same xs at g.0 (rising_of xs sane.idents.1) g.1)
 
     outer : length (idents_over s) ≤ at → place_over s (anchor_before_over s at) ≡ at
-    outer l = ap (λ o. place_over s (in_front (greatest_over s) o (anchor_over s at))) (none_there (idents_over s) at l) ∙ made_at s at sane h
+    outer l = ap (λ o. place_over s (in_front (greatest_over s) o (anchor_over s at))) (slice_get_past (idents_over s) at l) ∙ made_at s at sane h
 
 -- the one that names the character at a place
 pub before_at : (s : Seen) (at : ℕ) (x : List Tuple) → IsSane s → slice_get (idents_over s) at ≡ Some x → place_over s (Before (greatest_over s) x) ≡ at
