@@ -11,9 +11,10 @@ use Rattle.rls_seen.specs.Messages.{by_parts, with_releases, take_ops}
 use Rattle.rls_seen.specs.Messages as messages
 use Rattle.rls_seen.specs.Over.{answer_over, first_ready, received, refusal_over, release_of, release_over, released}
 use Rattle.rls_seen.specs.Sane.{IsSane}
-use Rattle.rls_seen.specs.Seen.{Seen}
+use Rattle.rls_seen.specs.Seen.{Seen, members}
 use Rattle.rls_seen.proofs.Repeating.{none_is, one_fewer, released_none, released_seen}
 use Rattle.rls_replica.specs.Steps.{course}
+use Rattle.rls_replica.proofs.Courses.{members_ops}
 use Rattle.rls_changes.specs.declared.change.Change.{Change}
 use Rattle.rls_changes.specs.Changes.{changes_over}
 use Rattle.rls_changes.specs.Telling.{if_applied, if_fits, received_changes, ready_changes, released_changes, times_changes, all_released_changes, Told, tells_parts, told_at, told_course, told_within, taken_changes}
@@ -137,6 +138,10 @@ ops_told s r u cs ds os e =
       whole (take_ops (messages.started None s) os) r u seen counted limit,
       ap (λ (c : Stage (Told Seen)). c.state.changes) e ∙ a.states.1,
     )
+
+-- there are as many members as before
+pub members_told : (s r : Seen) (u : Taken) (cs ds : List Change) (os : List Op) → told_course r u ds ≡ take_on tells_parts (told_course s no_counts cs) os → members r ≡ members s
+members_told s r u cs ds os e = ap (λ d. members d.state) (ops_told s r u cs ds os e).0 ∙ members_ops os (messages.started None s)
 
 -- the acknowledgement changes nothing of the text
 pub message_told : (s : Seen) (m : Message) → (take_on tells_parts (started None (told_at s)) m.ops).state.changes ≡ taken_changes s m

@@ -263,8 +263,8 @@ missing_within xs ts at place end x z r s g h f b =
       subst (λ n. AreMissing (take (n - at) (drop at ts)) xs) (sym b) (missing_gap xs ts at place x (rising_of xs r) (rising_of ts s) g m.0 m.1 z f),
     )
 
-pub cut_few : (xs ts : List (List Tuple)) (at place gone : ℕ) (x : List Tuple) → is_increasing xs ≡ true → is_increasing ts ≡ true → slice_get ts at ≡ Some x → below_count xs x ≡ place → gone ≡ length (cuts 0 (take at ts) xs) → gone ≤ place
-cut_few xs ts at place gone x r s g e k = let l = few_gone xs ts at x (rising_of xs r) (rising_of ts s) g in omega arith
+pub cut_few : (xs ts : List (List Tuple)) (at place gone : ℕ) (x : List Tuple) → is_increasing xs ≡ true → is_increasing ts ≡ true → slice_get ts at ≡ Some x → place_of x xs ≡ Ok place → gone ≡ length (cuts 0 (take at ts) xs) → gone ≤ place
+cut_few xs ts at place gone x r s g h k = let l = few_gone xs ts at x (rising_of xs r) (rising_of ts s) g in let e = (found xs x place r h).1 in omega arith
 
 -- the next stretch is taken out
 pub cut_more : (xs ts : List (List Tuple)) (at n place gone : ℕ) (cs new : List Change) → is_increasing xs ≡ true → is_increasing ts ≡ true → 0 < n → place + n ≤ length xs → at + n ≤ length ts → take n (drop at ts) ≡ take n (drop place xs) → gone ≤ place

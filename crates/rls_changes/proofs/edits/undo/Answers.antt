@@ -1,4 +1,4 @@
-use Rattle.std.proofs.Common.{◌≡◌, ◌∙◌, ℕ, ◌+◌, ◌-◌, take, ap, arith}
+use Rattle.std.proofs.Common.{◌≡◌, ◌∙◌, ℕ, ◌+◌, ◌-◌, length, take, ap, arith}
 use Rattle.rls_seen.specs.Seen.{own_count}
 use Rattle.rls_undo.specs.declared.undo.UndoError.TheVariants as undo
 use Rattle.rls_undo.specs.Undoing.{last_of, plan_over}
@@ -24,30 +24,27 @@ returns-in-Ok-clause-lead c =
     let e = c.in-Ok.ensures in
     whole_leads s c.undo.new.replica (plan_over s (last_of c.args.entries.now)) c.args.changes.now.items c.push_plan.new.changes.items c.sane.ensures.sane c.in_default.ensures.whole e.fits e.after c.in_default.ensures.ok
 
+module _ (c : goal.After-truncate) where
+  -- how many of the plan's edits were performed
+  done : own_count c.undo.new.replica ≡ own_count c.args.replica.now + (c.own_number.result - c.own_number-first.result)
+  done = let m = part_more c.args.replica.now c.undo.new.replica (plan_over c.args.replica.now (last_of c.args.entries.now)) c.sane.ensures.sane c.in_default.ensures.whole c.in-Err-undo.ensures.part in omega (arith, m, c.own_number.ensures.count, c.own_number-first.ensures.count)
+
+  -- and what is told of them
+  cut : c.truncate.new.self.items ≡ take (length c.args.changes.now.items + (c.own_number.result - c.own_number-first.result)) c.push_plan.new.changes.items
+  cut = c.truncate.ensures.items ∙ ap (λ (j : ℕ). take (j + (c.own_number.result - c.own_number-first.result)) c.push_plan.new.changes.items) (c.len-before.ensures ∙ c.args.changes.now.ok.0)
+
 pub returns-in-Err-undo-clause-refused : goal.returns-in-Err-undo-clause-refused
 returns-in-Err-undo-clause-refused c = λ f h.
     let s = c.args.replica.now in
-    let n = c.undo.new.replica in
-    let plan = plan_over s (last_of c.args.entries.now) in
-    let k = c.own_number.result - c.own_number-first.result in
-    let m = part_more s n plan c.sane.ensures.sane c.in_default.ensures.whole c.in-Err-undo.ensures.part in
-    let count : own_count n ≡ own_count s + k = omega (arith, m, c.own_number.ensures.count, c.own_number-first.ensures.count) in
-    let pushed = c.push_plan.new.changes.items in
-    let cut = c.truncate.ensures.items ∙ ap (λ (j : ℕ). take (j + k) pushed) (c.len-before.ensures ∙ c.args.changes.now.ok.0) in
+    let plan = last_of c.args.entries.now in
     let r = c.in-Err-undo.ensures.refused f h in
-    (r.0, r.1, told_refused s n plan c.args.changes.now.items pushed c.truncate.new.self.items k c.sane.ensures.sane c.in_default.ensures.whole (plan_ones s (last_of c.args.entries.now)) r.1 c.in_default.ensures.ok count cut)
+    (r.0, r.1, told_refused s _ (plan_over s plan) c.args.changes.now.items _ _ _ c.sane.ensures.sane c.in_default.ensures.whole (plan_ones s plan) r.1 c.in_default.ensures.ok (done c) (cut c))
 
 part : goal.returns-in-Err-undo-clause-part
 part c =
     let s = c.args.replica.now in
-    let n = c.undo.new.replica in
-    let plan = plan_over s (last_of c.args.entries.now) in
-    let k = c.own_number.result - c.own_number-first.result in
-    let m = part_more s n plan c.sane.ensures.sane c.in_default.ensures.whole c.in-Err-undo.ensures.part in
-    let count : own_count n ≡ own_count s + k = omega (arith, m, c.own_number.ensures.count, c.own_number-first.ensures.count) in
-    let pushed = c.push_plan.new.changes.items in
-    let cut = c.truncate.ensures.items ∙ ap (λ (j : ℕ). take (j + k) pushed) (c.len-before.ensures ∙ c.args.changes.now.ok.0) in
-    told_part s n plan c.args.changes.now.items pushed c.truncate.new.self.items k c.sane.ensures.sane c.in_default.ensures.whole (plan_ones s (last_of c.args.entries.now)) c.in-Err-undo.ensures.part c.in_default.ensures.ok count cut
+    let plan = last_of c.args.entries.now in
+    told_part s _ (plan_over s plan) c.args.changes.now.items _ _ _ c.sane.ensures.sane c.in_default.ensures.whole (plan_ones s plan) c.in-Err-undo.ensures.part c.in_default.ensures.ok (done c) (cut c)
 
 pub returns-in-Err-undo-clause-part : goal.returns-in-Err-undo-clause-part
 returns-in-Err-undo-clause-part c = part c

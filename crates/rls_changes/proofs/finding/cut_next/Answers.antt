@@ -14,9 +14,7 @@ stretch-requires c =
 
 pub overflow_sub-place : goal.overflow_sub-place
 overflow_sub-place c =
-    let xs = idents_over c.args.replica.now in
-    let f = found xs c.in_ok-id.id c.in-Ok.place c.sane.ensures.sane.idents.1 (sym c.in-Ok.ensures.place) in
-    cut_few xs c.args.targets.now c.args.at c.in-Ok.place c.args.gone c.in_ok-id.id c.sane.ensures.sane.idents.1 c.total-total.ensures.idents.1 c.in_ok-id.ensures.found f.1 c.requires.gone
+    cut_few (idents_over c.args.replica.now) c.args.targets.now c.args.at c.in-Ok.place c.args.gone c.in_ok-id.id c.sane.ensures.sane.idents.1 c.total-total.ensures.idents.1 c.in_ok-id.ensures.found (sym c.in-Ok.ensures.place) c.requires.gone
 
 pub push_deletion-requires : goal.push_deletion-requires
 push_deletion-requires c =
@@ -24,8 +22,7 @@ push_deletion-requires c =
     let l = length-map s.text (λ y. y.0) in
     let t = total_room s c.sane.ensures.sane in
     let xs = idents_over s in
-    let f = found xs c.in_ok-id.id c.in-Ok.place c.sane.ensures.sane.idents.1 (sym c.in-Ok.ensures.place) in
-    let k = cut_few xs c.args.targets.now c.args.at c.in-Ok.place c.args.gone c.in_ok-id.id c.sane.ensures.sane.idents.1 c.total-total.ensures.idents.1 c.in_ok-id.ensures.found f.1 c.requires.gone in
+    let k = cut_few xs c.args.targets.now c.args.at c.in-Ok.place c.args.gone c.in_ok-id.id c.sane.ensures.sane.idents.1 c.total-total.ensures.idents.1 c.in_ok-id.ensures.found (sym c.in-Ok.ensures.place) c.requires.gone in
     let r = cut_room xs c.args.targets.now c.args.at c.in_ok-count-in-Ok.count c.in-Ok.place c.args.gone c.args.changes.now.items k c.in_ok-count-in-Ok.ensures.room c.requires.gone c.requires.so_far in
     record { room = omega arith }
 
@@ -33,8 +30,7 @@ pub returns-in-Ok : goal.returns-in-Ok
 returns-in-Ok c =
     let xs = idents_over c.args.replica.now in
     let e = c.in_ok-count-in-Ok.ensures in
-    let f = found xs c.in_ok-id.id c.in-Ok.place c.sane.ensures.sane.idents.1 (sym c.in-Ok.ensures.place) in
-    let k = cut_few xs c.args.targets.now c.args.at c.in-Ok.place c.args.gone c.in_ok-id.id c.sane.ensures.sane.idents.1 c.total-total.ensures.idents.1 c.in_ok-id.ensures.found f.1 c.requires.gone in
+    let k = cut_few xs c.args.targets.now c.args.at c.in-Ok.place c.args.gone c.in_ok-id.id c.sane.ensures.sane.idents.1 c.total-total.ensures.idents.1 c.in_ok-id.ensures.found (sym c.in-Ok.ensures.place) c.requires.gone in
     let m = cut_more xs c.args.targets.now c.args.at c.in_ok-count-in-Ok.count c.in-Ok.place c.args.gone c.args.changes.now.items c.push_deletion.new.changes.items c.sane.ensures.sane.idents.1 c.total-total.ensures.idents.1 e.some e.room e.within e.same k c.requires.gone c.requires.so_far c.in_ok-push_deletion-in-Ok.ensures.ok in
     record { later = omega (arith, e.some); within = e.within; so_far = m.0; gone = m.1 }
 
@@ -52,7 +48,5 @@ overflow_add-result-in-Ok c =
     let s = c.args.replica.now in
     let l = length-map s.text (λ y. y.0) in
     let t = total_room s c.sane.ensures.sane in
-    let xs = idents_over s in
-    let f = found xs c.in_ok-id.id c.in-Ok.place c.sane.ensures.sane.idents.1 (sym c.in-Ok.ensures.place) in
-    let k = cut_few xs c.args.targets.now c.args.at c.in-Ok.place c.args.gone c.in_ok-id.id c.sane.ensures.sane.idents.1 c.total-total.ensures.idents.1 c.in_ok-id.ensures.found f.1 c.requires.gone in
+    let k = cut_few (idents_over s) c.args.targets.now c.args.at c.in-Ok.place c.args.gone c.in_ok-id.id c.sane.ensures.sane.idents.1 c.total-total.ensures.idents.1 c.in_ok-id.ensures.found (sym c.in-Ok.ensures.place) c.requires.gone in
     omega (arith, c.in_ok-count-in-Ok.ensures.room)

@@ -1,14 +1,14 @@
 use Rattle.std.proofs.Common.{◌≡◌, ◌∙◌, ◌++◌, None, sym, ap, subst, arith}
 use Rattle.rls_model.specs.Taking.{take_message}
-use Rattle.rls_seen.specs.Seen.{Seen, members}
+use Rattle.rls_seen.specs.Seen.{Seen}
 use Rattle.rls_seen.specs.Over.{acknowledged}
 use Rattle.rls_seen.specs.Messages.{started, taken_of}
 use Rattle.rls_seen.specs.Stands.{StandsFor}
 use Rattle.rls_seen.proofs.Taking.{taken_alike}
 use Rattle.rls_replica.proofs.Cut.{message_whole, message_part, message_part_stands}
-use Rattle.rls_replica.proofs.Courses.{message_counts, message_seen, members_ops}
+use Rattle.rls_replica.proofs.Courses.{message_counts, message_seen}
 use Rattle.rls_replica.proofs.KeptNames.{names_on, ops_names, part_of_ops_names}
-use Rattle.rls_changes.proofs.Courses.{ops_told, message_told}
+use Rattle.rls_changes.proofs.Courses.{members_told, message_told, ops_told}
 use Rattle.rls_changes.proofs.Told.{acknowledged_leads}
 use Rattle.rls_changes.proofs.taking.take.Goals as goal
 
@@ -27,16 +27,12 @@ returns-in_err-taken-clause-names c = part_of_ops_names c.args.replica.now c.tak
 
 pub acknowledge-requires-clause-member : goal.acknowledge-requires-clause-member
 acknowledge-requires-clause-member c =
-    let s = c.args.replica.now in
-    let told = ops_told s c.take_ops.new.replica c.in_ok-taken.taken c.args.changes.now.items c.take_ops.new.changes.items c.args.message.ops c.in_ok-taken.ensures.told in
-    let k : members c.take_ops.new.replica ≡ members s = ap (λ d. members d.state) told.0 ∙ members_ops c.args.message.ops (started None s) in
+    let k = members_told c.args.replica.now c.take_ops.new.replica c.in_ok-taken.taken c.args.changes.now.items c.take_ops.new.changes.items c.args.message.ops c.in_ok-taken.ensures.told in
     omega (arith, c.if-message-members.false, c.members.ensures.members, c.requires.from)
 
 pub acknowledge-requires-clause-counts : goal.acknowledge-requires-clause-counts
 acknowledge-requires-clause-counts c =
-    let s = c.args.replica.now in
-    let told = ops_told s c.take_ops.new.replica c.in_ok-taken.taken c.args.changes.now.items c.take_ops.new.changes.items c.args.message.ops c.in_ok-taken.ensures.told in
-    let k : members c.take_ops.new.replica ≡ members s = ap (λ d. members d.state) told.0 ∙ members_ops c.args.message.ops (started None s) in
+    let k = members_told c.args.replica.now c.take_ops.new.replica c.in_ok-taken.taken c.args.changes.now.items c.take_ops.new.changes.items c.args.message.ops c.in_ok-taken.ensures.told in
     omega (arith, c.if-message-members.false, c.members.ensures.members, c.requires.vector)
 
 pub returns-clause-taken : goal.returns-clause-taken
