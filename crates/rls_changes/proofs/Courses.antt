@@ -1,20 +1,24 @@
 -- Releases and operations that are taken with their changes, as loops go through them.
-use Rattle.std.proofs.Common.{◌≡◌, ◌∙◌, ℕ, zero, suc, false, true, List, [], ◌∷◌, ◌++◌, length, append_assoc, Option, Some, None, is_some, refl, sym, ap}
+use Rattle.std.proofs.Common.{◌≡◌, ◌∙◌, ℕ, zero, suc, false, true, List, [], ◌∷◌, ◌++◌, length, append_assoc, Option, Some, None, is_some, refl, sym, ap, subst}
 use Rattle.std.proofs.lemmas.List.{append-nil}
 use Rattle.rls_ops.specs.declared.op.Op.{Op}
 use Rattle.rls_ops.specs.declared.message.Message.{Message}
 use Rattle.rls_model.specs.declared.receipt.Taken.{Taken}
+use Rattle.rls_model.specs.Receiving.{State}
+use Rattle.rls_model.specs.Taking.{take_message, taken}
 use Rattle.rls_model.specs.Answers.{Reason, Answer, Applies, Repeats, Waits, Refuses, Released}
 use Rattle.rls_model.specs.Machine.{Stage, no_counts, started, with_receipt, with_reason, receive_on, with_release_on, release_on, releases_on, release_all_on, take_on}
 use Rattle.rls_model.proofs.Machines.{acknowledge_unlimited, none_ready, ops_limit, release_alike, release_all_alike, releases_limit, releases_stay, taking_alike}
-use Rattle.rls_seen.specs.Messages.{by_parts, with_releases, take_ops}
+use Rattle.rls_seen.specs.Messages.{by_parts, with_releases, take_ops, taken_of, taken_over, IsMessage}
 use Rattle.rls_seen.specs.Messages as messages
-use Rattle.rls_seen.specs.Over.{answer_over, first_ready, received, refusal_over, release_of, release_over, released}
+use Rattle.rls_seen.specs.Over.{answer_over, first_ready, received, refusal_over, release_of, release_over, released, IsPartReleased}
 use Rattle.rls_seen.specs.Sane.{IsSane}
+use Rattle.rls_seen.specs.Stands.{StandsFor}
+use Rattle.rls_seen.proofs.Taking.{taken_alike}
 use Rattle.rls_seen.specs.Seen.{Seen, members}
 use Rattle.rls_seen.proofs.Repeating.{none_is, one_fewer, released_none, released_seen}
-use Rattle.rls_replica.specs.Steps.{course}
-use Rattle.rls_replica.proofs.Courses.{members_ops}
+use Rattle.rls_replica.specs.Steps.{course, IsOnWay, IsPartOfOps}
+use Rattle.rls_replica.proofs.Courses.{members_ops, taken_none, taken_part}
 use Rattle.rls_changes.specs.declared.change.Change.{Change}
 use Rattle.rls_changes.specs.Changes.{changes_over}
 use Rattle.rls_changes.specs.Telling.{if_applied, if_fits, received_changes, ready_changes, released_changes, times_changes, all_released_changes, Told, tells_parts, told_at, told_course, told_within, taken_changes}
@@ -125,6 +129,16 @@ releases_seen s r t u cs ds e =
     let limit : (with_releases (course s t)).limit ≡ None = releases_limit by_parts (length s.waiting) (course s t) refl in
     whole (with_releases (course s t)) r u seen counted limit
 
+-- ---- one operation is taken, with the releases after it
+
+-- it isn't received
+pub none_taken : (r n : Seen) (t : Taken) (o : Op) → n ≡ r → (s : Seen) (os rest : List Op) → IsOnWay s os (course r t) (o ∷ rest) → IsPartOfOps s os n
+none_taken r n t o e s os rest w = rw e (taken_none s r t os (o ∷ rest) w)
+
+-- or some of them aren't made
+pub some_taken : (r m n : Seen) (t : Taken) (o : Op) → m ≡ received r o → IsSane m → IsPartReleased m n → (s : Seen) (os rest : List Op) → IsOnWay s os (course r t) (o ∷ rest) → IsPartOfOps s os n
+some_taken r m n t o e sane p s os rest w = taken_part s r n t o os rest (subst IsSane e sane) (subst (λ x. IsPartReleased x n) e p) w
+
 -- ---- a whole message
 
 pub ops_told : (s r : Seen) (u : Taken) (cs ds : List Change) (os : List Op) → told_course r u ds ≡ take_on tells_parts (told_course s no_counts cs) os
@@ -142,6 +156,10 @@ ops_told s r u cs ds os e =
 -- there are as many members as before
 pub members_told : (s r : Seen) (u : Taken) (cs ds : List Change) (os : List Op) → told_course r u ds ≡ take_on tells_parts (told_course s no_counts cs) os → members r ≡ members s
 members_told s r u cs ds os e = ap (λ d. members d.state) (ops_told s r u cs ds os e).0 ∙ members_ops os (messages.started None s)
+
+-- what stands for the replica before stands for it afterwards
+pub message_stands : (s n : Seen) (m : Message) (t : State) → n ≡ (taken_over s m).state → IsMessage (members s) m → StandsFor s t → (taken_of (taken_over s m) ≡ taken (take_message t m)) × StandsFor n (take_message t m).state
+message_stands s n m t e whole h = let law = taken_alike None s t m whole h in (law.0, subst (λ (u : Seen). StandsFor u (take_message t m).state) (sym e) law.1)
 
 -- the acknowledgement changes nothing of the text
 pub message_told : (s : Seen) (m : Message) → (take_on tells_parts (started None (told_at s)) m.ops).state.changes ≡ taken_changes s m

@@ -36,16 +36,15 @@ returns-in_err-release_one-clause-names c =
 
 pub releases-preserved : goal.releases-preserved
 releases-preserved c =
-    let s = c.releases.replica in
     let e = c.in_ok-release_one.ensures in
     let some = sym e.some ∙ c.if-branch.true in
     record {
-      all = ap (release_all_on tells_parts) e.told ∙ (told_more s c.releases.taken c.releases.changes.items e.sane some ∙ c.releases.invariant.all);
-      seen = ap released_all e.after ∙ (all_more s e.sane some ∙ c.releases.invariant.seen);
-      part = rw e.after (part_more c.args.replica.now s c.releases.invariant.part);
+      all = ap (release_all_on tells_parts) e.told ∙ (told_more c.releases.replica c.releases.taken c.releases.changes.items e.sane some ∙ c.releases.invariant.all);
+      seen = ap released_all e.after ∙ (all_more c.releases.replica e.sane some ∙ c.releases.invariant.seen);
+      part = rw e.after (part_more c.args.replica.now _ c.releases.invariant.part);
       counted = e.counted;
       arrived = λ n h. e.arrived n (c.releases.invariant.arrived n h);
-      lead = leads_on c.args.changes.now.items c.releases.changes.items c.release_one.new.changes.items (text_over c.args.replica.now) (text_over s) (text_over c.release_one.new.replica) c.releases.invariant.lead e.lead;
+      lead = leads_on c.args.changes.now.items c.releases.changes.items c.release_one.new.changes.items _ (text_over c.releases.replica) _ c.releases.invariant.lead e.lead;
     }
 
 pub releases-smaller : goal.releases-smaller

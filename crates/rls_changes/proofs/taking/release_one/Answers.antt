@@ -1,5 +1,4 @@
 use Rattle.std.proofs.Common.{sym}
-use Rattle.rls_model.specs.Answers.{reason_in}
 use Rattle.rls_replica.proofs.Courses.{released_room, released_sums, fewer_counts, released_counts, unreleased_counts}
 use Rattle.rls_changes.proofs.Courses.{released_told, unreleased_told}
 use Rattle.rls_changes.proofs.taking.release_one.Goals as goal
@@ -10,10 +9,7 @@ count_release-requires c = record { room = released_room c.args.replica.now c.ar
 pub returns-in_err-count_release-in-Some-clause-counted :
     goal.returns-in_err-count_release-in-Some-clause-counted
 returns-in_err-count_release-in-Some-clause-counted c =
-    let s = c.args.replica.now in
-    let t = c.args.taken.now in
-    let k = released_sums s c.sane.ensures.sane in
-    rw (c.in_ok-release.ensures.after, c.in_err-count_release-in-Some.ensures.err) (fewer_counts s t k c.requires.counted)
+    rw (c.in_ok-release.ensures.after, c.in_err-count_release-in-Some.ensures.err) (fewer_counts c.args.replica.now c.args.taken.now (released_sums c.args.replica.now c.sane.ensures.sane) c.requires.counted)
 
 pub returns-in-None-clause-counted : goal.returns-in-None-clause-counted
 returns-in-None-clause-counted c =
@@ -26,15 +22,9 @@ returns-in-None-clause-told c =
 pub returns-in_ok-count_release-in-Some-clause-counted :
     goal.returns-in_ok-count_release-in-Some-clause-counted
 returns-in_ok-count_release-in-Some-clause-counted c =
-    let r = c.in-Some.release in
-    rw (c.in_ok-release.ensures.after, c.in_ok-count_release-in-Some.ensures.ok)
-    (released_counts c.args.replica.now c.args.taken.now (record { author = r.author; seq = r.seq; refusal = reason_in r.refusal }) c.sane.ensures.sane
-    (sym (rw c.in-Some.is at c.in_ok-release.ensures.answer)) c.requires.counted)
+    rw (c.in_ok-release.ensures.after, c.in_ok-count_release-in-Some.ensures.ok) (released_counts c.args.replica.now c.args.taken.now _ c.sane.ensures.sane (sym (rw c.in-Some.is at c.in_ok-release.ensures.answer)) c.requires.counted)
 
 pub returns-in_ok-count_release-in-Some-clause-told :
     goal.returns-in_ok-count_release-in-Some-clause-told
 returns-in_ok-count_release-in-Some-clause-told c =
-    let r = c.in-Some.release in
-    rw (c.in_ok-release.ensures.after, c.in_ok-release.ensures.changes, c.in_ok-count_release-in-Some.ensures.ok)
-    (released_told c.args.replica.now c.args.taken.now c.args.changes.now.items (record { author = r.author; seq = r.seq; refusal = reason_in r.refusal })
-    (sym (rw c.in-Some.is at c.in_ok-release.ensures.answer)))
+    rw (c.in_ok-release.ensures.after, c.in_ok-release.ensures.changes, c.in_ok-count_release-in-Some.ensures.ok) (released_told c.args.replica.now c.args.taken.now c.args.changes.now.items _ (sym (rw c.in-Some.is at c.in_ok-release.ensures.answer)))

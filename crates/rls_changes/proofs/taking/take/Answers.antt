@@ -1,14 +1,10 @@
-use Rattle.std.proofs.Common.{◌≡◌, ◌∙◌, ◌++◌, None, sym, ap, subst, arith}
-use Rattle.rls_model.specs.Taking.{take_message}
-use Rattle.rls_seen.specs.Seen.{Seen}
+use Rattle.std.proofs.Common.{◌∙◌, ◌++◌, None, sym, ap, arith}
 use Rattle.rls_seen.specs.Over.{acknowledged}
 use Rattle.rls_seen.specs.Messages.{started, taken_of}
-use Rattle.rls_seen.specs.Stands.{StandsFor}
-use Rattle.rls_seen.proofs.Taking.{taken_alike}
 use Rattle.rls_replica.proofs.Cut.{message_whole, message_part, message_part_stands}
 use Rattle.rls_replica.proofs.Courses.{message_counts, message_seen}
 use Rattle.rls_replica.proofs.KeptNames.{names_on, ops_names, part_of_ops_names}
-use Rattle.rls_changes.proofs.Courses.{members_told, message_told, ops_told}
+use Rattle.rls_changes.proofs.Courses.{members_told, message_stands, message_told, ops_told}
 use Rattle.rls_changes.proofs.Told.{acknowledged_leads}
 use Rattle.rls_changes.proofs.taking.take.Goals as goal
 
@@ -16,11 +12,9 @@ pub returns-in_err-taken-clause-cut : goal.returns-in_err-taken-clause-cut
 returns-in_err-taken-clause-cut c = λ _. message_part c.args.replica.now c.take_ops.new.replica c.args.message c.in_err-taken.ensures.err
 
 pub returns-in_err-taken-clause-part : goal.returns-in_err-taken-clause-part
-returns-in_err-taken-clause-part c = λ _ t h.
-    let s = c.args.replica.now in
-    let m = c.args.message in
-    let whole = message_whole s m (omega (arith, c.if-message-members.false, c.members.ensures.members)) c.requires.from c.requires.vector c.len-len.ensures.bounded c.fits.ensures.whole in
-    message_part_stands s c.take_ops.new.replica t m whole (message_part s c.take_ops.new.replica m c.in_err-taken.ensures.err) h
+returns-in_err-taken-clause-part c = λ e t h.
+    let whole = message_whole c.args.replica.now c.args.message (omega (arith, c.if-message-members.false, c.members.ensures.members)) c.requires.from c.requires.vector c.len-len.ensures.bounded c.fits.ensures.whole in
+    message_part_stands _ _ t _ whole (returns-in_err-taken-clause-cut c e) h
 
 pub returns-in_err-taken-clause-names : goal.returns-in_err-taken-clause-names
 returns-in_err-taken-clause-names c = part_of_ops_names c.args.replica.now c.take_ops.new.replica c.args.message.ops c.in_err-taken.ensures.err
@@ -63,10 +57,7 @@ returns-clause-stands c = λ t h.
     let s = c.args.replica.now in
     let m = c.args.message in
     let whole = message_whole s m (omega (arith, c.if-message-members.false, c.members.ensures.members)) c.requires.from c.requires.vector c.len-len.ensures.bounded c.fits.ensures.whole in
-    let law = taken_alike None s t m whole h in (
-      returns-clause-taken c ∙ law.0,
-      subst (λ (u : Seen). StandsFor u (take_message t m).state) (sym (after c)) law.1,
-    )
+    let stands = message_stands s _ m t (after c) whole h in (returns-clause-taken c ∙ stands.0, stands.1)
 
 pub returns-clause-names : goal.returns-clause-names
 returns-clause-names c =

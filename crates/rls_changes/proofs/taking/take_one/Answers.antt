@@ -1,23 +1,18 @@
-use Rattle.std.proofs.Common.{◌≡◌, ◌∙◌, ◌∷◌, ◌+◌, List, ap, subst, rules}
-use Rattle.rls_ops.specs.declared.op.Op.{Op}
+use Rattle.std.proofs.Common.{◌∙◌, ◌+◌, ◌++◌, false, refl, ap, subst, rules}
 use Rattle.rls_model.specs.Answers.{answer_of}
 use Rattle.rls_model.specs.Machine.{release_all_on, with_receipt}
-use Rattle.rls_seen.specs.Seen.{Seen, text_over}
-use Rattle.rls_seen.specs.Over.{received, IsPartReleased}
-use Rattle.rls_seen.specs.Messages.{with_releases}
+use Rattle.rls_seen.specs.Seen.{text_over}
+use Rattle.rls_seen.specs.Over.{answer_over, received}
 use Rattle.rls_seen.specs.Sane.{IsSane}
-use Rattle.rls_replica.specs.Steps.{course, IsOnWay, IsPartOfOps}
-use Rattle.rls_replica.proofs.Courses.{taken_none, taken_received, taken_part, taken_all, received_counts, unreceived_counts, received_few}
-use Rattle.rls_changes.specs.Telling.{tells_parts, told_course}
-use Rattle.rls_changes.proofs.Courses.{received_told}
+use Rattle.rls_replica.proofs.Courses.{taken_all, received_counts, unreceived_counts, received_few}
+use Rattle.rls_changes.specs.Telling.{received_changes, tells_parts, told_course}
+use Rattle.rls_changes.proofs.Courses.{none_taken, received_told, releases_seen, some_taken}
 use Rattle.rls_changes.proofs.Told.{leads_on}
 use Rattle.rls_changes.proofs.taking.take_one.Goals as goal
 
 pub returns-in_err-receipt-clause-err : goal.returns-in_err-receipt-clause-err
 returns-in_err-receipt-clause-err c =
-    let r = c.args.replica.now in
-    let t = c.args.taken.now in
-    let k : (s : Seen) (os rest : List Op) → IsOnWay s os (course r t) (c.args.op ∷ rest) → IsPartOfOps s os c.receive.new.replica = λ s os rest w. rw c.in_err-receipt.ensures.err (taken_none s r t os (c.args.op ∷ rest) w) in
+    let k = none_taken c.args.replica.now c.receive.new.replica c.args.taken.now c.args.op c.in_err-receipt.ensures.err in
     search rules
 
 pub returns-in_err-count_receipt-clause-counted : goal.returns-in_err-count_receipt-clause-counted
@@ -26,26 +21,15 @@ returns-in_err-count_receipt-clause-counted c =
 
 pub returns-in_err-count_receipt-clause-err : goal.returns-in_err-count_receipt-clause-err
 returns-in_err-count_receipt-clause-err c =
-    let r = c.args.replica.now in
-    let t = c.args.taken.now in
-    let after = c.in_ok-receipt.ensures.after in
-    let k : (s : Seen) (os rest : List Op) → IsOnWay s os (course r t) (c.args.op ∷ rest) → IsPartOfOps s os c.receive.new.replica =
-    λ s os rest w. rw after (taken_received s r t c.args.op os rest (subst IsSane after c.sane-2.ensures.sane) w) in
+    let k = some_taken c.args.replica.now _ c.receive.new.replica c.args.taken.now c.args.op c.in_ok-receipt.ensures.after c.sane-2.ensures.sane (0, refl) in
     search rules
 
 pub release_all-requires : goal.release_all-requires
-release_all-requires c = record {
-  counted = rw (c.in_ok-receipt.ensures.after, c.in_ok-count_receipt.ensures.ok) (received_counts c.args.replica.now c.args.taken.now c.args.op (answer_of c.in_ok-receipt.receipt) c.requires.counted);
-}
+release_all-requires c = record { counted = rw (c.in_ok-receipt.ensures.after, c.in_ok-count_receipt.ensures.ok) (received_counts c.args.replica.now c.args.taken.now c.args.op (answer_of c.in_ok-receipt.receipt) c.requires.counted) }
 
 pub returns-in_err-release_all-clause-err : goal.returns-in_err-release_all-clause-err
 returns-in_err-release_all-clause-err c =
-    let r = c.args.replica.now in
-    let t = c.args.taken.now in
-    let u = c.release_all.new.replica in
-    let after = c.in_ok-receipt.ensures.after in
-    let part : IsPartReleased (received r c.args.op) u = subst (λ x. IsPartReleased x u) after c.in_err-release_all.ensures.err in
-    let k : (s : Seen) (os rest : List Op) → IsOnWay s os (course r t) (c.args.op ∷ rest) → IsPartOfOps s os u = λ s os rest w. taken_part s r u t c.args.op os rest (subst IsSane after c.sane-2.ensures.sane) part w in
+    let k = some_taken c.args.replica.now _ c.release_all.new.replica c.args.taken.now c.args.op c.in_ok-receipt.ensures.after c.sane-2.ensures.sane c.in_err-release_all.ensures.err in
     search rules
 
 pub returns-in_err-release_all-clause-arrived : goal.returns-in_err-release_all-clause-arrived
@@ -77,12 +61,9 @@ returns-clause-told c =
 pub returns-clause-ok : goal.returns-clause-ok
 returns-clause-ok c = λ s os rest w.
     let r = c.args.replica.now in
-    let t = c.args.taken.now in
     let o = c.args.op in
-    let after = c.in_ok-receipt.ensures.after in
-    let counted = c.in_ok-count_receipt.ensures.ok ∙ ap (with_receipt t o.author o.seq) c.in_ok-receipt.ensures.answer in
-    taken_all s r c.release_all.new.replica t c.release_all.new.taken o os rest (subst IsSane after c.sane-2.ensures.sane)
-    (c.in_ok-release_all.ensures.ok ∙ ap with_releases (ap (λ x. course x c.count_receipt.new.self) after ∙ ap (course (received r o)) counted)) w
+    taken_all s r _ c.args.taken.now _ o os rest (subst IsSane c.in_ok-receipt.ensures.after c.sane-2.ensures.sane)
+    (releases_seen (received r o) _ (with_receipt c.args.taken.now o.author o.seq (answer_over false r o)) _ (c.args.changes.now.items ++ received_changes r o) _ (returns-clause-told c)) w
 
 pub returns-clause-lead : goal.returns-clause-lead
 returns-clause-lead c =

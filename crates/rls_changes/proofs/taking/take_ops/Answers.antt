@@ -1,7 +1,7 @@
-use Rattle.std.proofs.Common.{◌≡◌, ◌∙◌, ◌+◌, ◌^◌, length, sym, ap, subst, rules, arith}
+use Rattle.std.proofs.Common.{◌∙◌, ◌+◌, length, sym, ap, subst, rules, arith}
 use Rattle.rls_model.specs.Machine.{take_on}
 use Rattle.rls_seen.specs.Seen.{text_over}
-use Rattle.rls_replica.specs.Steps.{course, IsPartOfOps, IsOnWay}
+use Rattle.rls_replica.specs.Steps.{course, IsOnWay}
 use Rattle.rls_changes.specs.Telling.{tells_parts, told_course}
 use Rattle.rls_changes.proofs.Told.{leads_on}
 use Rattle.rls_changes.proofs.taking.take_ops.Goals as goal
@@ -23,7 +23,7 @@ taking-preserved c =
 
 pub returns-in_err-take_one-clause-err : goal.returns-in_err-take_one-clause-err
 returns-in_err-take_one-clause-err c =
-    let part : IsPartOfOps c.args.replica.now c.args.ops c.take_one.new.replica = c.in_err-take_one.ensures.err c.args.replica.now c.args.ops c.pop_first.new.self (subst (IsOnWay c.args.replica.now c.args.ops (course c.taking.replica c.taking.taken)) c.in-Some.ensures.first c.taking.invariant.way) in
+    let part = c.in_err-take_one.ensures.err c.args.replica.now c.args.ops c.pop_first.new.self (subst (IsOnWay c.args.replica.now c.args.ops (course c.taking.replica c.taking.taken)) c.in-Some.ensures.first c.taking.invariant.way) in
     search rules
 
 pub returns-in_err-take_one-clause-lead : goal.returns-in_err-take_one-clause-lead
