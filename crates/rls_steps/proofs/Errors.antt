@@ -1,6 +1,6 @@
 -- An error that is handed on.
-use Rattle.std.proofs.Common.{◌≡◌, ap, Result, Err}
-use Rattle.std.specs.Prelude.{IsErrOf, ◌↔◌}
+use Rattle.std.proofs.Common.{◌≡◌, ap, Result, Ok, Err}
+use Rattle.std.specs.Prelude.{IsErrAnd, IsErrOf, ◌↔◌}
 use Rattle.rls_ident.specs.declared.epoch_name.EpochName.{EpochName}
 use Rattle.rls_replica.specs.declared.translating.PastError.{PastError}
 use Rattle.rls_replica.specs.declared.translating.PastError.TheVariants as past
@@ -22,5 +22,6 @@ dropped_as p x e P d h = (
 )
 
 -- the exit of a `?` returns the error that the call returned
-pub err_back : {T U E : Type 0} (r : Result U E) (x y z : E) → r ≡ Err y → y ≡ x → r ≡ Err z → IsErrOf {T = T} {E = E} (Err x) z
-err_back r x y z p q h = let e : x ≡ z = cc in ap (λ v. Err v) e
+pub err_back : {T U E : Type 0} (r : Result U E) (x z : E) → IsErrAnd r (λ y. y ≡ x) → r ≡ Err z → IsErrOf {T = T} {E = E} (Err x) z
+err_back (Ok u) x z h e = absurd h
+err_back (Err y) x z h e = let k : x ≡ z = cc in ap (λ v. Err v) k

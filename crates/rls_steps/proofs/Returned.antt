@@ -44,37 +44,37 @@ pub record IsReturned (s n : Seen) (r q : Recorded) (ms : List Move) : Type 0 wh
   pub after : steps_over n q ≡ course (steps_over s r) ms
   pub shows : (c : Copies) → Shows (steps_over s r) c → Shows (steps_over n q) (copies c ms)
 
-pub undone : (s n : Seen) (r w q : Recorded) → IsReadied s r w → n.epochs ≡ s.epochs → q.epoch ≡ w.epoch →
+pub undone : (s n : Seen) (r w : Recorded) (next : ℕ) (names : Names) (past future : List Step) → IsReadied s r w → n.epochs ≡ s.epochs →
     MayRun (stacked (held_by s w.next w.names) w.past w.future) (replicate (group_size w.past) Back) →
-    stacked (held_by n q.next q.names) q.past q.future ≡ course (stacked (held_by s w.next w.names) w.past w.future) (replicate (group_size w.past) Back) →
-    IsReturned s n r q (replicate (group_size r.past) Back)
-undone s n r w q i e g f a =
+    stacked (held_by n next names) past future ≡ course (stacked (held_by s w.next w.names) w.past w.future) (replicate (group_size w.past) Back) →
+    IsReturned s n r (record { epoch = w.epoch; next = next; names = names; past = past; future = future; group = w.group; after_sweep = w.after_sweep }) (replicate (group_size r.past) Back)
+undone s n r w next names past future i e f a =
     let st = readied_is s r w i in
     let k : group_size w.past ≡ group_size r.past = ap group_size i.past in
     let fits : MayRun (steps_over s r) (replicate (group_size r.past) Back) =
     subst (λ (x : Steps). MayRun x (replicate (group_size r.past) Back)) st (subst (λ (j : ℕ). MayRun (stacked (held_by s w.next w.names) w.past w.future) (replicate j Back)) k f) in
-    let after : steps_over n q ≡ course (steps_over s r) (replicate (group_size r.past) Back) =
-    now_is n q (g ∙ (i.epoch ∙ sym (same_greatest s n e)))
+    let after : _ ≡ course (steps_over s r) (replicate (group_size r.past) Back) =
+    now_is n (record { epoch = w.epoch; next = next; names = names; past = past; future = future; group = w.group; after_sweep = w.after_sweep }) (i.epoch ∙ sym (same_greatest s n e))
     ∙ (a ∙ (ap (λ (x : Steps). course x (replicate (group_size w.past) Back)) st ∙ ap (λ (j : ℕ). course (steps_over s r) (replicate j Back)) k)) in
-    record { fits = fits; after = after; shows = shown (steps_over s r) (steps_over n q) (group_size r.past) fits after }
+    record { fits = fits; after = after; shows = shown (steps_over s r) _ (group_size r.past) fits after }
 
-pub redone : (s n : Seen) (r w q : Recorded) → IsReadied s r w → n.epochs ≡ s.epochs → q.epoch ≡ w.epoch →
+pub redone : (s n : Seen) (r w : Recorded) (next : ℕ) (names : Names) (past future : List Step) → IsReadied s r w → n.epochs ≡ s.epochs →
     MayRun (stacked (held_by s w.next w.names) w.future w.past) (replicate (group_size w.future) Back) →
-    stacked (held_by n q.next q.names) q.future q.past ≡ course (stacked (held_by s w.next w.names) w.future w.past) (replicate (group_size w.future) Back) →
-    IsReturned s n r q (replicate (group_size r.future) Again)
-redone s n r w q i e g f a =
+    stacked (held_by n next names) future past ≡ course (stacked (held_by s w.next w.names) w.future w.past) (replicate (group_size w.future) Back) →
+    IsReturned s n r (record { epoch = w.epoch; next = next; names = names; past = past; future = future; group = w.group; after_sweep = w.after_sweep }) (replicate (group_size r.future) Again)
+redone s n r w next names past future i e f a =
     let h = held_by s w.next w.names in
     let st = readied_is s r w i in
     let k : group_size w.future ≡ group_size r.future = ap group_size i.future in
     let runs : MayRun (stacked h w.past w.future) (replicate (group_size w.future) Again) = turned_runs (group_size w.future) h (pieces_of w.future) (pieces_of w.past) f in
     let fits : MayRun (steps_over s r) (replicate (group_size r.future) Again) =
     subst (λ (x : Steps). MayRun x (replicate (group_size r.future) Again)) st (subst (λ (j : ℕ). MayRun (stacked h w.past w.future) (replicate j Again)) k runs) in
-    let other : stacked (held_by n q.next q.names) q.past q.future ≡ course (stacked h w.past w.future) (replicate (group_size w.future) Again) =
+    let other : stacked (held_by n next names) past future ≡ course (stacked h w.past w.future) (replicate (group_size w.future) Again) =
     ap turned a ∙ sym (turned_course (group_size w.future) h (pieces_of w.future) (pieces_of w.past)) in
-    let after : steps_over n q ≡ course (steps_over s r) (replicate (group_size r.future) Again) =
-    now_is n q (g ∙ (i.epoch ∙ sym (same_greatest s n e)))
+    let after : _ ≡ course (steps_over s r) (replicate (group_size r.future) Again) =
+    now_is n (record { epoch = w.epoch; next = next; names = names; past = past; future = future; group = w.group; after_sweep = w.after_sweep }) (i.epoch ∙ sym (same_greatest s n e))
     ∙ (other ∙ (ap (λ (x : Steps). course x (replicate (group_size w.future) Again)) st ∙ ap (λ (j : ℕ). course (steps_over s r) (replicate j Again)) k)) in
-    record { fits = fits; after = after; shows = shown_again (steps_over s r) (steps_over n q) (group_size r.future) fits after }
+    record { fits = fits; after = after; shows = shown_again (steps_over s r) _ (group_size r.future) fits after }
 
 -- a deletion is recorded
 pub delete_step : (s n : Seen) (r w : Recorded) (more : ℕ) (names : Names) (past future : List Step) (at count : ℕ) → w ≡ r → r.epoch ≡ greatest_over s → n.epochs ≡ s.epochs → future ≡ [] →

@@ -1,5 +1,5 @@
 use Rattle.std.proofs.Common.{◌≡◌, ap, sym, subst, ◌∙◌, None}
-use Rattle.std.proofs.lemmas.Result.{err_from_is_err_and, on_ok_weaker}
+use Rattle.std.proofs.lemmas.Result.{on_ok_weaker}
 use Rattle.rls_model.specs.declared.edit.Edit.{Edit}
 use Rattle.rls_seen.specs.Edits.{edit_fault_over, made_over}
 use Rattle.rls_steps.specs.Recorded.{IsInsertion}
@@ -17,15 +17,10 @@ pub delete-requires-clause-op : goal.delete-requires-clause-op
 delete-requires-clause-op c = c.requires.op ∙ ap (made_over c.args.replica.now) c.in-Delete.is
 
 pub returns-in_err-settle-in-Insert-clause-dropped : goal.returns-in_err-settle-in-Insert-clause-dropped
-returns-in_err-settle-in-Insert-clause-dropped c = λ e h.
-    let p = err_from_is_err_and c.from_residual.result c.from_residual.ensures.1 in
-    (c.in_err-settle-in-Insert.ensures.dropped e).0 (err_back c.from_residual.result c.in_err-settle-in-Insert.field-0.0 p.0 _ p.1 p.2 h)
+returns-in_err-settle-in-Insert-clause-dropped c = λ e h. (c.in_err-settle-in-Insert.ensures.dropped e).0 (err_back c.from_residual.result c.in_err-settle-in-Insert.field-0.0 _ c.from_residual.ensures.1 h)
 
 pub returns-in_err-settle-in-Delete-clause-dropped : goal.returns-in_err-settle-in-Delete-clause-dropped
-returns-in_err-settle-in-Delete-clause-dropped c = λ e h.
-    let r = c.from_residual-in_err-settle-in-Delete.result in
-    let p = err_from_is_err_and r c.from_residual-in_err-settle-in-Delete.ensures.1 in
-    (c.in_err-settle-in-Delete.ensures.dropped e).0 (err_back r c.in_err-settle-in-Delete.field-0.0 p.0 _ p.1 p.2 h)
+returns-in_err-settle-in-Delete-clause-dropped c = λ e h. (c.in_err-settle-in-Delete.ensures.dropped e).0 (err_back c.from_residual-in_err-settle-in-Delete.result c.in_err-settle-in-Delete.field-0.0 _ c.from_residual-in_err-settle-in-Delete.ensures.1 h)
 
 pub returns-in_ok-settle-in-Insert-clause-recorded : goal.returns-in_ok-settle-in-Insert-clause-recorded
 returns-in_ok-settle-in-Insert-clause-recorded c =

@@ -1,20 +1,11 @@
 use Rattle.std.proofs.Common.{refl}
-use Rattle.std.proofs.lemmas.Result.{err_from_is_err_and}
-use Rattle.rls_steps.specs.Recorded.{Recorded}
 use Rattle.rls_steps.proofs.Errors.{err_back}
 use Rattle.rls_steps.proofs.Returned.{readied, undone}
 use Rattle.rls_steps.proofs.steps.Steps.undo.Goals as goal
 use Rattle.rls_steps.proofs.steps.Steps.undo.Goals.{in-Ok, in-Err}
 
 pub returns-in_err-settle_for-clause-dropped : goal.returns-in_err-settle_for-clause-dropped
-returns-in_err-settle_for-clause-dropped c = λ e h.
-    let p = err_from_is_err_and c.from_residual.result c.from_residual.ensures.1 in
-    let d = (c.in_err-settle_for.ensures.dropped e).0 (err_back c.from_residual.result c.in_err-settle_for.field-0.0 p.0 _ p.1 p.2 h) in
-    (d.0, d.1, refl, c.in_err-settle_for.ensures.stays)
+returns-in_err-settle_for-clause-dropped c = λ e h. let d = (c.in_err-settle_for.ensures.dropped e).0 (err_back c.from_residual.result c.in_err-settle_for.field-0.0 _ c.from_residual.ensures.1 h) in (d.0, d.1, refl, c.in_err-settle_for.ensures.stays)
 
 pub returns-clause-shows : goal.returns-clause-shows
-returns-clause-shows c =
-    let w : Recorded = record { epoch = c.self-2.inside.epoch; next = c.self-2.inside.next; names = c.self-2.inside.names; past = c.self-2.inside.past.items; future = c.self-2.inside.future.items; group = c.self-2.inside.group; after_sweep = c.self-2.inside.after_sweep } in
-    let q : Recorded = record { epoch = c.self-2.inside.epoch; next = c.back.new.next; names = c.back.new.names; past = c.back.new.from.items; future = c.back.new.to.items; group = c.self-2.inside.group; after_sweep = c.self-2.inside.after_sweep } in
-    let i = readied c.args.replica.now c.args.self.now c.settle_for.new.self c.close.new.self w c.in_ok-settle_for.ensures.settled c.close.ensures.epoch c.close.ensures.next c.close.ensures.names c.close.ensures.past c.close.ensures.future c.self-2.view_is in
-    elim c.match-back.branch [ in-Ok v ↦ rw v.result-is ((undone c.args.replica.now c.back.new.replica c.args.self.now w q i c.back.ensures.epochs refl v.in-Ok.ensures.fits v.in-Ok.ensures.after).shows) | in-Err v ↦ rw v.result-is tt ]
+returns-clause-shows c = elim c.match-back.branch [ in-Ok v ↦ rw v.result-is ((undone _ _ _ _ c.back.new.next c.back.new.names c.back.new.from.items c.back.new.to.items (readied _ _ _ _ _ c.in_ok-settle_for.ensures.settled c.close.ensures.epoch c.close.ensures.next c.close.ensures.names c.close.ensures.past c.close.ensures.future c.self-2.view_is) c.back.ensures.epochs v.in-Ok.ensures.fits v.in-Ok.ensures.after).shows) | in-Err v ↦ rw v.result-is tt ]
