@@ -23,32 +23,24 @@ more_names d r q n x l e more h = ap (names_by d r.first r.label 0) (sym more) �
 
 pub invariant_of-self : goal.invariant_of-self
 invariant_of-self c =
-    let more : c.self.inside.len + 1 ≡ c.in-Some.len = let w = c.in-Some.ensures in omega (arith, w) in
-    grown_up _ _ c.args.ident.now c.args.label _ c.self.view_is more c.self.invariant.ident (c.if-goes_up.ensures.ident refl) (ap is_last_bounded c.last-last.ensures.last ∙ c.last-last.ensures.last_bounded) (c.if-goes_up.ensures.label refl) c.ranges.label.fits
+    grown_up _ _ c.args.ident.now c.args.label _ c.self.view_is (omega (arith, c.in-Some.ensures)) c.self.invariant.ident (c.if-goes_up.ensures.ident refl) (ap is_last_bounded c.last-last.ensures.last ∙ c.last-last.ensures.last_bounded) (c.if-goes_up.ensures.label refl) c.ranges.label.fits
 
 pub returns-then-goes_up-clause-more : goal.returns-then-goes_up-clause-more
 returns-then-goes_up-clause-more c = λ t.
-    let q = c.args.self.now in
-    let more : c.self.inside.len + 1 ≡ c.in-Some.len = let w = c.in-Some.ensures in omega (arith, w) in
-    more_names false _ q _ _ _ c.self.view_is more (taken_up q.down q.first c.args.ident.now q.label c.args.label q.len (c.if-goes_up.ensures.names refl) (c.if-goes_up.ensures.ident refl) (c.if-goes_up.ensures.label refl))
+    more_names false _ _ _ _ _ c.self.view_is (omega (arith, c.in-Some.ensures)) (taken_up _ _ _ _ _ _ (c.if-goes_up.ensures.names refl) (c.if-goes_up.ensures.ident refl) (c.if-goes_up.ensures.label refl))
 
 pub returns-then-goes_up-clause-sound : goal.returns-then-goes_up-clause-sound
 returns-then-goes_up-clause-sound c =
-    let more : c.self.inside.len + 1 ≡ c.in-Some.len = let w = c.in-Some.ensures in omega (arith, w) in
-    grown_up _ _ c.args.ident.now c.args.label _ c.self.view_is more c.self.invariant.ident (c.if-goes_up.ensures.ident refl) (ap is_last_bounded c.last-last.ensures.last ∙ c.last-last.ensures.last_bounded) (c.if-goes_up.ensures.label refl) c.ranges.label.fits
+    grown_up _ _ c.args.ident.now c.args.label _ c.self.view_is (omega (arith, c.in-Some.ensures)) c.self.invariant.ident (c.if-goes_up.ensures.ident refl) (ap is_last_bounded c.last-last.ensures.last ∙ c.last-last.ensures.last_bounded) (c.if-goes_up.ensures.label refl) c.ranges.label.fits
 
 pub invariant_of-self-then-goes_down : goal.invariant_of-self-then-goes_down
 invariant_of-self-then-goes_down c =
-    let more : c.self.inside.len + 1 ≡ c.in-Some.len = let w = c.in-Some.ensures in omega (arith, w) in
-    grown_down _ _ c.args.ident.now c.args.label _ c.self.view_is more c.self.invariant.ident c.last-last.ensures.ident (c.if-goes_down.ensures.ident refl) (ap is_last_bounded c.last-last.ensures.last ∙ c.last-last.ensures.last_bounded) (c.if-goes_down.ensures.label refl)
+    grown_down _ _ c.args.ident.now c.args.label _ c.self.view_is (omega (arith, c.in-Some.ensures)) c.self.invariant.ident c.last-last.ensures.ident (c.if-goes_down.ensures.ident refl) (ap is_last_bounded c.last-last.ensures.last ∙ c.last-last.ensures.last_bounded) (c.if-goes_down.ensures.label refl)
 
 pub returns-then-goes_down-clause-more : goal.returns-then-goes_down-clause-more
 returns-then-goes_down-clause-more c = λ t.
-    let q = c.args.self.now in
-    let more : c.self.inside.len + 1 ≡ c.in-Some.len = let w = c.in-Some.ensures in omega (arith, w) in
-    more_names true _ q _ _ _ c.self.view_is more (taken_down q.down q.first c.args.ident.now q.label c.args.label q.len (c.if-goes_down.ensures.names refl) (c.if-goes_down.ensures.ident refl) (c.if-goes_down.ensures.label refl))
+    more_names true _ _ _ _ _ c.self.view_is (omega (arith, c.in-Some.ensures)) (taken_down _ _ _ _ _ _ (c.if-goes_down.ensures.names refl) (c.if-goes_down.ensures.ident refl) (c.if-goes_down.ensures.label refl))
 
 pub returns-then-goes_down-clause-sound : goal.returns-then-goes_down-clause-sound
 returns-then-goes_down-clause-sound c =
-    let more : c.self.inside.len + 1 ≡ c.in-Some.len = let w = c.in-Some.ensures in omega (arith, w) in
-    grown_down _ _ c.args.ident.now c.args.label _ c.self.view_is more c.self.invariant.ident c.last-last.ensures.ident (c.if-goes_down.ensures.ident refl) (ap is_last_bounded c.last-last.ensures.last ∙ c.last-last.ensures.last_bounded) (c.if-goes_down.ensures.label refl)
+    grown_down _ _ c.args.ident.now c.args.label _ c.self.view_is (omega (arith, c.in-Some.ensures)) c.self.invariant.ident c.last-last.ensures.ident (c.if-goes_down.ensures.ident refl) (ap is_last_bounded c.last-last.ensures.last ∙ c.last-last.ensures.last_bounded) (c.if-goes_down.ensures.label refl)
