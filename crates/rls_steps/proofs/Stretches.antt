@@ -248,16 +248,14 @@ labels_down false x l m n q p = absurd (cc)
 labels_down true x l m n q p =
     let w = in_names true x l 0 m n p in
     let e = ap (λ (k : List Tuple × ℕ). k.1) w.2 in
-    let h = w.1 in
-    (omega (arith, e, h), omega (arith, e, h))
+    (omega (arith, e, w.1), omega (arith, e, w.1))
 
 pub labels_up : (d : Bool) (x : List Tuple) (l m : ℕ) (n : List Tuple × ℕ) → d ≡ false → IsIn n (names_by d x l 0 m) → (l ≤ n.1) × (n.1 ≤ label_by d l (m - 1))
 labels_up true x l m n q p = absurd (cc)
 labels_up false x l m n q p =
     let w = in_names false x l 0 m n p in
     let e = ap (λ (k : List Tuple × ℕ). k.1) w.2 in
-    let h = w.1 in
-    (omega (arith, e, h), omega (arith, e, h))
+    (omega (arith, e, w.1), omega (arith, e, w.1))
 
 pub order_down : (d : Bool) (l k : ℕ) → d ≡ true → label_by d l k ≤ l
 order_down false l k q = absurd (cc)
