@@ -322,17 +322,9 @@ last_start n (q ∷ qs) (suc k) r s g h e =
     let own = names_long q.down q.first q.label 0 q.len in
     omega (arith, ih, long, own)
 
--- the run that was read at a number
-pub read_run : (rs : List Stretch) (ss : List ℕ) (k : ℕ) (r : Stretch) → ss ≡ starts_of 0 rs → k < length ss → r ≡ get_or rs k r → slice_get rs k ≡ Some r
-read_run rs ss k r e h is = slice_get_read rs (length rs) k r refl (let long = ap length e ∙ starts_long 0 rs in omega (arith, long, h)) is
-
-pub some_starts : (rs : List Stretch) (ss : List ℕ) (i : ℕ) → ss ≡ starts_of 0 rs → i < length (named rs) → 0 < length ss
-some_starts [] ss i e h = absurd (omega (arith, h))
-some_starts (r ∷ rs) ss i e h = let n = ap length e in omega (arith, n)
-
-pub first_start : (rs : List Stretch) (ss : List ℕ) (i : ℕ) → ss ≡ starts_of 0 rs → get_or ss 0 0 ≤ i
-first_start [] ss i e = let n = ap (λ (ks : List ℕ). get_or ks 0 0) e in omega (arith, n)
-first_start (r ∷ rs) ss i e = let n = ap (λ (ks : List ℕ). get_or ks 0 0) e in omega (arith, n)
+pub starts_begin : (rs : List Stretch) (ss : List ℕ) (i : ℕ) → ss ≡ starts_of 0 rs → i < length (named rs) → (0 < length ss) × (get_or ss 0 0 ≤ i)
+starts_begin [] ss i e h = absurd (omega (arith, h))
+starts_begin (r ∷ rs) ss i e h = (omega (arith, ap length e), omega (arith, ap (λ (ks : List ℕ). get_or ks 0 0) e))
 
 -- a place among the starts is one among the runs, and what is read there is the run there
 pub start_within : (rs : List Stretch) (ss : List ℕ) (k : ℕ) → ss ≡ starts_of 0 rs → k < length ss → k < length rs
@@ -356,6 +348,10 @@ place_short rs ss i k r e w h low high g =
     (λ b. let last = not_lt_is (k + 1) (length ss) b in
     let t = last_start 0 rs k r s g at (omega (arith, last, h, long)) in
     omega (arith, t, w, low))
+
+-- the same of the run that was read there
+pub short_there : (rs : List Stretch) (ss : List ℕ) (i k : ℕ) (r : Stretch) → ss ≡ starts_of 0 rs → i < length (named rs) → k < length ss → get_or ss k 0 ≤ i → (k + 1 < length ss → i < get_or ss (k + 1) 0) → r ≡ get_or rs k r → i - get_or ss k 0 < r.len
+short_there rs ss i k r e w h low high is = place_short rs ss i k r e w h low high (stretch_there rs ss k r e h is)
 
 pub place_name : (rs : List Stretch) (ss : List ℕ) (i k : ℕ) (r : Stretch) → ss ≡ starts_of 0 rs → k < length ss → get_or ss k 0 ≤ i → slice_get rs k ≡ Some r → i - get_or ss k 0 < r.len → slice_get (named rs) i ≡ Some (name_at r (i - get_or ss k 0))
 place_name rs ss i k r e h low g short =

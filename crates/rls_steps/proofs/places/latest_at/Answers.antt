@@ -3,16 +3,13 @@ use Rattle.std.specs.Prelude.{Some}
 use Rattle.std.proofs.lemmas.Option.{slice_get-get_or}
 use Rattle.rls_steps.specs.NameRuns.{Stretch, named}
 use Rattle.rls_steps.specs.Bounds.{IsLatest}
-use Rattle.rls_steps.proofs.Indexing.{some_starts, first_start, start_within, stretch_there}
+use Rattle.rls_steps.proofs.Indexing.{starts_begin, start_within, stretch_there}
 use Rattle.rls_steps.proofs.LabelRuns.{run_latest}
 use Rattle.rls_steps.proofs.Bounded.{none_within}
 use Rattle.rls_steps.proofs.places.latest_at.Goals as goal
 
-pub run_at-k-requires-clause-some : goal.run_at-k-requires-clause-some
-run_at-k-requires-clause-some c = some_starts c.args.runs.now c.args.starts.now c.args.i c.requires.starts c.requires.place
-
-pub run_at-k-requires-clause-first : goal.run_at-k-requires-clause-first
-run_at-k-requires-clause-first c = first_start c.args.runs.now c.args.starts.now c.args.i c.requires.starts
+pub run_at-k-requires : goal.run_at-k-requires
+run_at-k-requires c = let b = starts_begin _ _ c.args.i c.requires.starts c.requires.place in record { some = b.0; first = b.1 }
 
 pub offset_bounds-runs-k : goal.offset_bounds-runs-k
 offset_bounds-runs-k c = omega (arith, start_within c.args.runs.now c.args.starts.now c.run_at-k.result c.requires.starts c.run_at-k.ensures.within)

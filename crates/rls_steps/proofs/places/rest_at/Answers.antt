@@ -3,15 +3,12 @@ use Rattle.rls_ident.proofs.Members.{some_is}
 use Rattle.rls_ident.specs.declared.tuple.Tuple.{Tuple}
 use Rattle.rls_ident.specs.Lists.{IsIn}
 use Rattle.rls_steps.specs.NameRuns.{name_at, names_of}
-use Rattle.rls_steps.proofs.Indexing.{some_starts, first_start, start_within, stretch_there, place_short, place_name, run_ends}
+use Rattle.rls_steps.proofs.Indexing.{starts_begin, start_within, stretch_there, place_short, short_there, place_name, run_ends}
 use Rattle.rls_steps.proofs.Stretches.{name_in}
 use Rattle.rls_steps.proofs.places.rest_at.Goals as goal
 
-pub run_at-k-requires-clause-some : goal.run_at-k-requires-clause-some
-run_at-k-requires-clause-some c = some_starts c.args.runs.now c.args.starts.now c.args.i c.requires.starts c.requires.place
-
-pub run_at-k-requires-clause-first : goal.run_at-k-requires-clause-first
-run_at-k-requires-clause-first c = first_start c.args.runs.now c.args.starts.now c.args.i c.requires.starts
+pub run_at-k-requires : goal.run_at-k-requires
+run_at-k-requires c = let b = starts_begin _ _ c.args.i c.requires.starts c.requires.place in record { some = b.0; first = b.1 }
 
 pub offset_bounds-runs-k : goal.offset_bounds-runs-k
 offset_bounds-runs-k c = omega (arith, start_within c.args.runs.now c.args.starts.now c.run_at-k.result c.requires.starts c.run_at-k.ensures.within)
@@ -20,20 +17,10 @@ pub bounds-runs-k : goal.bounds-runs-k
 bounds-runs-k c = omega (arith, start_within c.args.runs.now c.args.starts.now c.run_at-k.result c.requires.starts c.run_at-k.ensures.within)
 
 pub overflow_sub-result-2 : goal.overflow_sub-result-2
-overflow_sub-result-2 c =
-    let rs = c.args.runs.now in
-    let h = c.run_at-k.ensures.within in
-    let g = stretch_there rs c.args.starts.now c.run_at-k.result c.index-runs-k.result c.requires.starts h c.index-runs-k.is in
-    let short = place_short rs c.args.starts.now c.args.i c.run_at-k.result c.index-runs-k.result c.requires.starts c.requires.place h c.run_at-k.ensures.below c.run_at-k.ensures.above g in
-    omega (arith, short, c.len.ensures.len)
+overflow_sub-result-2 c = omega (arith, short_there _ _ c.args.i _ _ c.requires.starts c.requires.place c.run_at-k.ensures.within c.run_at-k.ensures.below c.run_at-k.ensures.above c.index-runs-k.is, c.len.ensures.len)
 
 pub returns-clause-some : goal.returns-clause-some
-returns-clause-some c =
-    let rs = c.args.runs.now in
-    let h = c.run_at-k.ensures.within in
-    let g = stretch_there rs c.args.starts.now c.run_at-k.result c.index-runs-k.result c.requires.starts h c.index-runs-k.is in
-    let short = place_short rs c.args.starts.now c.args.i c.run_at-k.result c.index-runs-k.result c.requires.starts c.requires.place h c.run_at-k.ensures.below c.run_at-k.ensures.above g in
-    omega (arith, short, c.len.ensures.len)
+returns-clause-some c = omega (arith, short_there _ _ c.args.i _ _ c.requires.starts c.requires.place c.run_at-k.ensures.within c.run_at-k.ensures.below c.run_at-k.ensures.above c.index-runs-k.is, c.len.ensures.len)
 
 pub returns-clause-within : goal.returns-clause-within
 returns-clause-within c =

@@ -6,7 +6,7 @@ use Rattle.rls_ident.specs.declared.tuple.Tuple.{Tuple}
 use Rattle.rls_steps.specs.Labelled.{Names}
 use Rattle.rls_steps.specs.NameRuns.{named, name_at}
 use Rattle.rls_steps.specs.Index.{tail_at}
-use Rattle.rls_steps.proofs.Indexing.{starts_long, some_starts, first_start, place_short, place_name, tail_name}
+use Rattle.rls_steps.proofs.Indexing.{starts_long, starts_begin, place_short, place_name, tail_name}
 use Rattle.rls_steps.proofs.LabelRuns.{older_in}
 use Rattle.rls_steps.proofs.Stretches.{name_in}
 use Rattle.rls_steps.specs.Bounds.{HasLabel}
@@ -14,20 +14,11 @@ use Rattle.rls_steps.specs.declared.interval.Interval.{Interval}
 use Rattle.rls_steps.specs.Intervals.{IsBetween}
 use Rattle.rls_steps.proofs.names.Names.interval_before.Goals as goal
 
-pub run_at-run-requires-clause-some : goal.run_at-run-requires-clause-some
-run_at-run-requires-clause-some c =
-    let h = c.requires.place in
-    let view = ap length c.self.view_is in
-    some_starts c.self.inside.runs.items c.deref.result.now c.args.i (c.deref.ensures.value ∙ c.self.invariant.kept.starts) (omega (arith, h, view))
-
-pub run_at-run-requires-clause-first : goal.run_at-run-requires-clause-first
-run_at-run-requires-clause-first c = first_start c.self.inside.runs.items c.deref.result.now c.args.i (c.deref.ensures.value ∙ c.self.invariant.kept.starts)
+pub run_at-run-requires : goal.run_at-run-requires
+run_at-run-requires c = let b = starts_begin _ _ c.args.i (c.deref.ensures.value ∙ c.self.invariant.kept.starts) (omega (arith, c.requires.place, ap length c.self.view_is)) in record { some = b.0; first = b.1 }
 
 pub index-requires : goal.index-requires
-index-requires c =
-    let long = ap length (c.deref.ensures.value ∙ c.self.invariant.kept.starts) ∙ starts_long 0 c.self.inside.runs.items in
-    let h = c.run_at-run.ensures.within in
-    omega (arith, long, h)
+index-requires c = omega (arith, ap length (c.deref.ensures.value ∙ c.self.invariant.kept.starts) ∙ starts_long 0 c.self.inside.runs.items, c.run_at-run.ensures.within)
 
 pub returns-in-Some : goal.returns-in-Some
 returns-in-Some c = record {
@@ -39,12 +30,10 @@ returns-in-Some c = record {
       let starts = c.deref.ensures.value ∙ c.self.invariant.kept.starts in
       let long = ap length starts ∙ starts_long 0 rs in
       let h = c.run_at-run.ensures.within in
-      let in_all = c.requires.place in
-      let view = ap length c.self.view_is in
       let w = get_of rs k (omega (arith, long, h)) in
       let r = w.0 in
       let at = slice_get-get_or ss k 0 h in
-      let short = place_short rs ss c.args.i k r starts (omega (arith, in_all, view)) h c.run_at-run.ensures.below c.run_at-run.ensures.above w.1 in
+      let short = place_short rs ss c.args.i k r starts (omega (arith, c.requires.place, ap length c.self.view_is)) h c.run_at-run.ensures.below c.run_at-run.ensures.above w.1 in
       let is = place_name rs ss c.args.i k r starts h c.run_at-run.ensures.below w.1 short in
       let tail = ap (λ (ks : Names). tail_at (reverse ks) c.args.i) c.self.view_is ∙ t in
       let j = c.args.i - get_or ss k 0 in

@@ -6,26 +6,17 @@ use Rattle.rls_ident.proofs.Members.{some_is}
 use Rattle.rls_steps.specs.Labelled.{Names}
 use Rattle.rls_steps.specs.NameRuns.{Stretch, named, name_at}
 use Rattle.rls_steps.specs.Index.{newest_at, tail_at}
-use Rattle.rls_steps.proofs.Indexing.{starts_long, some_starts, first_start, place_short, place_name, tail_name}
+use Rattle.rls_steps.proofs.Indexing.{starts_long, starts_begin, place_short, place_name, tail_name}
 use Rattle.rls_steps.proofs.LabelRuns.{none_skipped, older_is}
 use Rattle.rls_steps.proofs.Stretches.{name_in}
 use Rattle.rls_steps.specs.Bounds.{HasLabel}
 use Rattle.rls_steps.proofs.names.Names.older.Goals as goal
 
-pub run_at-run-requires-clause-some : goal.run_at-run-requires-clause-some
-run_at-run-requires-clause-some c =
-    let h = c.requires.place in
-    let view = ap length c.self.view_is in
-    some_starts c.self.inside.runs.items c.deref.result.now c.args.i (c.deref.ensures.value ∙ c.self.invariant.kept.starts) (omega (arith, h, view))
-
-pub run_at-run-requires-clause-first : goal.run_at-run-requires-clause-first
-run_at-run-requires-clause-first c = first_start c.self.inside.runs.items c.deref.result.now c.args.i (c.deref.ensures.value ∙ c.self.invariant.kept.starts)
+pub run_at-run-requires : goal.run_at-run-requires
+run_at-run-requires c = let b = starts_begin _ _ c.args.i (c.deref.ensures.value ∙ c.self.invariant.kept.starts) (omega (arith, c.requires.place, ap length c.self.view_is)) in record { some = b.0; first = b.1 }
 
 pub index-requires : goal.index-requires
-index-requires c =
-    let long = ap length (c.deref.ensures.value ∙ c.self.invariant.kept.starts) ∙ starts_long 0 c.self.inside.runs.items in
-    let h = c.run_at-run.ensures.within in
-    omega (arith, long, h)
+index-requires c = omega (arith, ap length (c.deref.ensures.value ∙ c.self.invariant.kept.starts) ∙ starts_long 0 c.self.inside.runs.items, c.run_at-run.ensures.within)
 
 pub label-label-requires : goal.label-label-requires
 label-label-requires c =
@@ -35,14 +26,12 @@ label-label-requires c =
     let starts = c.deref.ensures.value ∙ c.self.invariant.kept.starts in
     let long = ap length starts ∙ starts_long 0 rs in
     let h = c.run_at-run.ensures.within in
-    let in_all = c.requires.place in
-    let view = ap length c.self.view_is in
     let g = slice_get_read rs (length rs) k c.index.result.now refl (omega (arith, long, h)) c.index.ensures in
     let s = slice_get_read ss (length ss) k c.index-2.result.now refl h (c.index-2.ensures ∙ ap (λ ks. get_or ks k c.index-2.result.now) (sym c.deref.ensures.value)) in
     let t = slice_get-get_or ss k 0 h in
     let same : c.index-2.result.now ≡ get_or ss k 0 = some_is c.index-2.result.now (get_or ss k 0) (sym s ∙ t) in
     record {
-      place = subst (λ n. c.args.i - n < c.index.result.now.len) (sym same) (place_short rs ss c.args.i k c.index.result.now starts (omega (arith, in_all, view)) h c.run_at-run.ensures.below c.run_at-run.ensures.above g);
+      place = subst (λ n. c.args.i - n < c.index.result.now.len) (sym same) (place_short rs ss c.args.i k c.index.result.now starts (omega (arith, c.requires.place, ap length c.self.view_is)) h c.run_at-run.ensures.below c.run_at-run.ensures.above g);
     }
 
 pub newest_in-requires-clause-few : goal.newest_in-requires-clause-few
@@ -77,13 +66,11 @@ returns c = record {
       let starts = c.deref.ensures.value ∙ c.self.invariant.kept.starts in
       let long = ap length starts ∙ starts_long 0 rs in
       let h = c.run_at-run.ensures.within in
-      let in_all = c.requires.place in
-      let view = ap length c.self.view_is in
       let g = slice_get_read rs (length rs) k r refl (omega (arith, long, h)) c.index.ensures in
       let at = slice_get-get_or ss k 0 h in
       let own = slice_get_read ss (length ss) k c.index-2.result.now refl h (c.index-2.ensures ∙ ap (λ ks. get_or ks k c.index-2.result.now) (sym c.deref.ensures.value)) in
       let same : c.index-2.result.now ≡ get_or ss k 0 = some_is c.index-2.result.now (get_or ss k 0) (sym own ∙ at) in
-      let short = place_short rs ss c.args.i k r starts (omega (arith, in_all, view)) h c.run_at-run.ensures.below c.run_at-run.ensures.above g in
+      let short = place_short rs ss c.args.i k r starts (omega (arith, c.requires.place, ap length c.self.view_is)) h c.run_at-run.ensures.below c.run_at-run.ensures.above g in
       let is = place_name rs ss c.args.i k r starts h c.run_at-run.ensures.below g short in
       let tail = ap (λ (ks : Names). tail_at (reverse ks) c.args.i) c.self.view_is ∙ t in
       let name = tail_name (named rs) c.args.i (name_at r (c.args.i - get_or ss k 0)) n ns is tail in
