@@ -350,10 +350,13 @@ in_list [] x i h e = absurd (omega (arith, h))
 in_list (y ∷ ys) x zero h e = inl e
 in_list (y ∷ ys) x (suc i) h e = inr (in_list ys x i (omega (arith, h)) e)
 
-pub list_at : (xs : List ℕ) (x : ℕ) → IsIn x xs → (i : ℕ) × (i < length xs) × (get_or xs i 0 ≡ x)
+list_at : (xs : List ℕ) (x : ℕ) → IsIn x xs → (i : ℕ) × (i < length xs) × (get_or xs i 0 ≡ x)
 list_at [] x p = absurd p
 list_at (y ∷ ys) x (inl e) = (0, omega arith, e)
 list_at (y ∷ ys) x (inr p) = let r = list_at ys x p in let h = r.1 in (suc r.0, omega (arith, h), r.2)
+
+pub needed_at : (xs : List ℕ) (x : ℕ) → is_needed xs x ≡ true → (i : ℕ) × (i < length xs) × (get_or xs i 0 ≡ x)
+needed_at xs x t = let f = in_any (λ k. k == x) xs t in list_at xs x (subst (λ k. IsIn k xs) (eq_is f.0 x f.2) f.1)
 
 pub needed_found : (xs : List ℕ) (x : ℕ) (r : Result ℕ ℕ) → IsBinarySearchResult (λ y. nat_cmp y x) xs r → IsNonDecreasing xs → is_ok r ≡ is_needed xs x
 needed_found xs x r b s = go r (searched xs x r b (λ i j h k. s i j 0 h k))
@@ -361,14 +364,10 @@ needed_found xs x r b s = go r (searched xs x r b (λ i j h k. s i j 0 h k))
     go : (q : Result ℕ ℕ) → MatchResult q (λ i. (i < length xs) × (get_or xs i 0 ≡ x)) (λ i. (i ≤ length xs) × ((k : ℕ) → k < i → get_or xs k 0 < x) × ((k : ℕ) → i ≤ k → k < length xs → x < get_or xs k 0)) → is_ok q ≡ is_needed xs x
     go (Ok i) m = sym (any_in (λ k. k == x) x xs (in_list xs x i m.0 m.1) (eq_refl x))
     go (Err i) m = sym (not_true (is_needed xs x) (λ t.
-        let f = in_any (λ k. k == x) xs t in
-        let w = list_at xs f.0 f.1 in
-        let same = eq_is f.0 x f.2 in
-        let here = w.2 in
-        let h = w.1 in
+        let w = needed_at xs x t in
         bool_cases (nat_lt w.0 i)
-        (λ b. let l = m.1 w.0 (lt_is w.0 i b) in absurd (omega (arith, l, here, same)))
-        (λ b. let l = m.2 w.0 (not_lt_is w.0 i b) h in absurd (omega (arith, l, here, same)))))
+        (λ b. absurd (omega (arith, m.1 w.0 (lt_is w.0 i b), w.2)))
+        (λ b. absurd (omega (arith, m.2 w.0 (not_lt_is w.0 i b) w.1, w.2)))))
 
 -- ---- the next one
 

@@ -28,7 +28,7 @@ use Rattle.rls_steps.specs.Sweeping.{is_needed, is_that, is_newest, is_kept}
 use Rattle.rls_steps.proofs.Found.{contained, contains_in}
 use Rattle.rls_steps.proofs.Indexing.{tail_name}
 use Rattle.rls_steps.proofs.Stretches.{in_names, names_long}
-use Rattle.rls_steps.proofs.Swept.{in_list, list_at}
+use Rattle.rls_steps.proofs.Swept.{in_list, needed_at}
 use Rattle.rls_steps.proofs.Walking.{newest_ident}
 
 -- ---- labels in increasing order, each once
@@ -93,17 +93,11 @@ none_needed ls low high at l b r f x y =
     let s = rising_sorted ls r in
     let m = searched ls low (Err at) b (λ i j h k. s i j 0 h k) in
     not_true (is_needed ls l) (λ t.
-    let w = in_any (λ k. k == l) ls t in
-    let v = list_at ls w.0 w.1 in
-    let same = eq_is w.0 l w.2 in
-    let here = v.2 in
-    let h = v.1 in
+    let v = needed_at ls l t in
     bool_cases (nat_lt v.0 at)
-    (λ c. let less = m.1 v.0 (lt_is v.0 at c) in absurd (omega (arith, less, here, same, x)))
+    (λ c. absurd (omega (arith, m.1 v.0 (lt_is v.0 at c), v.2, x)))
     (λ c. let most = not_lt_is v.0 at c in
-    let over = f (omega (arith, most, h)) in
-    let up = s at v.0 0 most h in
-    absurd (omega (arith, over, up, here, same, y))))
+    absurd (omega (arith, f (omega (arith, most, v.1)), s at v.0 0 most v.1, v.2, y))))
 
 -- ---- names that go
 
