@@ -50,10 +50,13 @@ at_in (x ∷ cs) n zero c h is =
     rw test (ap (λ (y : Cursor). Some y.anchor) same)
 at_in (x ∷ cs) n (suc i) c h is = rw h.0 (at_in cs n i c h.1 is)
 
-pub at_within : (cs : List Cursor) (n i : ℕ) → IsAt cs n i → i < length cs
-at_within [] n i h = absurd h
-at_within (c ∷ cs) n zero h = omega arith
-at_within (c ∷ cs) n (suc i) h = let l = at_within cs n i h.1 in omega arith
+at_short : (cs : List Cursor) (n i : ℕ) → IsAt cs n i → i < length cs
+at_short [] n i h = absurd h
+at_short (c ∷ cs) n zero h = omega arith
+at_short (c ∷ cs) n (suc i) h = let l = at_short cs n i h.1 in omega arith
+
+pub at_within : (items cs : List Cursor) (n i : ℕ) → items ≡ cs → IsAt cs n i → i < length items
+at_within items cs n i view h = omega (arith, ap length view, at_short cs n i h)
 
 pub at_put : (cs : List Cursor) (n i : ℕ) (a : Anchor) → IsAt cs n i → cursor_in (set cs i (record { number = n; anchor = a })) n ≡ Some a
 at_put [] n i a h = absurd h

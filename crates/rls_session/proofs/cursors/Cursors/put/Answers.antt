@@ -1,13 +1,10 @@
-use Rattle.std.proofs.Common.{[], ◌∷◌, ◌++◌, ◌∙◌, List, ap, arith, set, subst, sym}
+use Rattle.std.proofs.Common.{[], ◌∷◌, ◌++◌, ◌∙◌, List, ap, arith, set, sym}
 use Rattle.rls_session.specs.declared.cursors.Cursor.{Cursor}
-use Rattle.rls_session.specs.Cursors.{IsAt}
 use Rattle.rls_session.proofs.Numbered.{at_with, at_within, others_with}
 use Rattle.rls_session.proofs.cursors.Cursors.put.Goals as goal
 
 pub index_mut-requires : goal.index_mut-requires
-index_mut-requires c =
-    let l = at_within c.self.inside.all.items c.args.number c.in-Some.i (subst (λ (cs : List Cursor). IsAt cs c.args.number c.in-Some.i) (sym c.self.view_is) c.in-Some.ensures.some) in
-    omega (arith, l)
+index_mut-requires c = omega (arith, at_within _ _ _ _ c.self.view_is c.in-Some.ensures.some)
 
 pub returns-in_ok-push-in-None-clause-ok : goal.returns-in_ok-push-in-None-clause-ok
 returns-in_ok-push-in-None-clause-ok c =
