@@ -82,21 +82,23 @@ pub comes_end : {S : Type 0} (answer : Answers S) (whole : Course S) (replies : 
 comes_end answer whole replies used s h =
     h.course_is ∙ same_course (after replies used (ended s 0 false)) replies s used false (append-nil replies) refl (omega arith) refl
 
+-- an order that halts is to come
+comes_halt : {S : Type 0} (answer : Answers S) (whole : Course S) (replies : List ℕ) (used : ℕ) (s : S) (bytes : List ℕ) (r : Request) (stores : Bool) → Comes answer whole replies used s bytes → 0 < length bytes → (cut bytes).request ≡ r
+    → ((k : ℕ) (f : S → Course S) → go_on answer s r k f ≡ ended s 1 stores) → whole ≡ record { replies = replies; state = s; used = used + 1; stores = stores }
+comes_halt {S} answer whole replies used s bytes r stores h some is halts =
+    let here = course_begins answer s bytes some in
+    let there : go_on answer s (cut bytes).request (cut bytes).size (λ t. course answer t (drop (cut bytes).size bytes)) ≡ ended s 1 stores = rw is (halts (cut bytes).size (λ t. course answer t (drop (cut bytes).size bytes))) in
+    h.course_is ∙ ap (after replies used) (here ∙ there) ∙ same_course (after replies used (ended s 1 stores)) replies s (used + 1) stores (append-nil replies) refl refl refl
+
 -- the order to quit is to come
 pub comes_quit : {S : Type 0} (answer : Answers S) (whole : Course S) (replies : List ℕ) (used : ℕ) (s : S) (bytes : List ℕ) → Comes answer whole replies used s bytes
     → 0 < length bytes → (cut bytes).request ≡ Does Quit → whole ≡ record { replies = replies; state = s; used = used + 1; stores = false }
-comes_quit {S} answer whole replies used s bytes h some is =
-    let here = course_begins answer s bytes some in
-    let there : go_on answer s (cut bytes).request (cut bytes).size (λ t. course answer t (drop (cut bytes).size bytes)) ≡ ended s 1 false = rw is refl in
-    h.course_is ∙ ap (after replies used) (here ∙ there) ∙ same_course (after replies used (ended s 1 false)) replies s (used + 1) false (append-nil replies) refl refl refl
+comes_quit answer whole replies used s bytes h some is = comes_halt answer whole replies used s bytes (Does Quit) false h some is (λ k f. refl)
 
 -- the order to store is to come
 pub comes_store : {S : Type 0} (answer : Answers S) (whole : Course S) (replies : List ℕ) (used : ℕ) (s : S) (bytes : List ℕ) → Comes answer whole replies used s bytes
     → 0 < length bytes → (cut bytes).request ≡ Does Store → whole ≡ record { replies = replies; state = s; used = used + 1; stores = true }
-comes_store {S} answer whole replies used s bytes h some is =
-    let here = course_begins answer s bytes some in
-    let there : go_on answer s (cut bytes).request (cut bytes).size (λ t. course answer t (drop (cut bytes).size bytes)) ≡ ended s 1 true = rw is refl in
-    h.course_is ∙ ap (after replies used) (here ∙ there) ∙ same_course (after replies used (ended s 1 true)) replies s (used + 1) true (append-nil replies) refl refl refl
+comes_store answer whole replies used s bytes h some is = comes_halt answer whole replies used s bytes (Does Store) true h some is (λ k f. refl)
 
 -- ---- from store to store
 

@@ -140,25 +140,21 @@ pub cut_is : (bytes : List ℕ) (order : Order) → order ≡ order_of (before_f
 unfolding cut
 cut_is bytes order e = rw e refl
 
--- the request to quit comes of this order alone
-pub cut_quit : (order : Order) (rest : List ℕ) → (cut_after order rest).request ≡ Does Quit → order ≡ Quit
-cut_quit (Take n) rest e = go (nat_le n (length rest)) e
+-- a request comes of its own order alone, if it isn't that for lines that are no order
+cut_does : (does order : Order) (rest : List ℕ) → (does ≡ Bad → ⊥) → (cut_after order rest).request ≡ Does does → order ≡ does
+cut_does does (Take n) rest other e = go (nat_le n (length rest)) e
   where
-    go : (b : Bool) → (cond {A = Cut} b (record { request = Takes (take n rest); size = n }) (record { request = Does Bad; size = length rest })).request ≡ Does Quit → Take n ≡ Quit
+    go : (b : Bool) → (cond {A = Cut} b (record { request = Takes (take n rest); size = n }) (record { request = Does Bad; size = length rest })).request ≡ Does does → Take n ≡ does
     go true e = cc
-    go false e = cc
-cut_quit Quit rest e = refl
-cut_quit order rest e = cc
+    go false e = absurd (other (cc))
+cut_does does order rest other e = cc
 
--- and the one to store
+-- the requests to quit and to store do
+pub cut_quit : (order : Order) (rest : List ℕ) → (cut_after order rest).request ≡ Does Quit → order ≡ Quit
+cut_quit order rest e = cut_does Quit order rest (λ q. cc) e
+
 pub cut_store : (order : Order) (rest : List ℕ) → (cut_after order rest).request ≡ Does Store → order ≡ Store
-cut_store (Take n) rest e = go (nat_le n (length rest)) e
-  where
-    go : (b : Bool) → (cond {A = Cut} b (record { request = Takes (take n rest); size = n }) (record { request = Does Bad; size = length rest })).request ≡ Does Store → Take n ≡ Store
-    go true e = cc
-    go false e = cc
-cut_store Store rest e = refl
-cut_store order rest e = cc
+cut_store order rest e = cut_does Store order rest (λ q. cc) e
 
 -- an order that is answered
 abbrev pub IsPlainOrder : Order → Type 0

@@ -159,6 +159,16 @@ way_order answer first s input o order a b x y old new way is next keeps stays =
           fed = n.fed;
         }
 
+-- what comes behind an order that is answered
+comes_behind : {S : Type 0} (answer : Answers S) (first s : S) (given : List ℕ) (order : Order) (a : IntakeSeen) (x old new : Option (List ℕ)) (w : IsBetween answer first given s order a x old new) → IsPlainOrder order
+    → Comes answer (course answer first given) (w.replies ++ (answer s (cut_after order (drop (line_size w.bytes) w.bytes)).request).reply) (w.before + (line_size w.bytes + (cut_after order (drop (line_size w.bytes) w.bytes)).size))
+        (answer s (cut_after order (drop (line_size w.bytes) w.bytes)).request).state (drop (line_size w.bytes + (cut_after order (drop (line_size w.bytes) w.bytes)).size) w.bytes)
+comes_behind answer first s given order a x old new w other =
+    let rest = drop (line_size w.bytes) w.bytes in
+    let k = cut_after order rest in
+    let is : (cut w.bytes) ≡ with_line (line_size w.bytes) k = cut_is w.bytes order w.order_is in
+    comes_next answer (course answer first given) w.replies w.before s w.bytes k.request (line_size w.bytes + k.size) w.comes w.some (ap (λ c. c.request) is) (ap (λ c. c.size) is) (plain_cut order rest other)
+
 -- the order is answered, and the reply written
 pub way_reply : {S : Type 0} (answer : Answers S) (first s t : S) (input : Option (List ℕ)) (order : Order) (reply : List ℕ) (a b : IntakeSeen) (x y old mid new : Option (List ℕ)) → Between answer first input s order a x old mid
     → IsPlainOrder order → (KnowsEnd a x → IfSome (to_come a x) (λ bytes. IsReplied (answer s) bytes order reply t a b y)) → KeepsEnd a x b y → (IsTrue a.ended → IsTrue b.ended) → Appends mid new reply → OnWay answer first input t b y old new
@@ -174,8 +184,7 @@ way_reply answer first s t input order reply a b x y old mid new between other r
         let rest = drop size w.bytes in
         let r = subst (λ (o : Option (List ℕ)). IfSome o (λ bytes. IsReplied (answer s) bytes order reply t a b y)) w.to_come_is (replied w.known) in
         let k = cut_after order rest in
-        let is : (cut w.bytes) ≡ with_line size k = cut_is w.bytes order w.order_is in
-        let on = comes_next answer (course answer first given) w.replies w.before s w.bytes k.request (size + k.size) w.comes w.some (ap (λ c. c.request) is) (ap (λ c. c.size) is) (plain_cut order rest other) in
+        let on = comes_behind answer first s given order a x old mid w other in
         let there : t ≡ (answer s k.request).state = (r.answered).state_is in
         let said : reply ≡ (answer s k.request).reply = (r.answered).reply_is in
         let left : drop k.size rest ≡ drop (size + k.size) w.bytes = grind (arith, common_steps) in
@@ -214,18 +223,23 @@ way_over answer first s input a b x y old new way next = more input _ _ step way
         let all = comes_end answer (course answer first given) w.replies a.used s (subst (λ (l : List ℕ). Comes answer (course answer first given) w.replies a.used s l) n.none w.comes) in
         rw all (record { state_is = refl; stores_is = refl; within = n.within; written = w.written })
 
+-- an order that halts
+way_halt : {S : Type 0} (answer : Answers S) (first s : S) (input : Option (List ℕ)) (order : Order) (a : IntakeSeen) (x old new : Option (List ℕ)) (stores : Bool) → Between answer first input s order a x old new
+    → ((given : List ℕ) (w : IsBetween answer first given s order a x old new) → course answer first given ≡ record { replies = w.replies; state = s; used = w.before + 1; stores = stores })
+    → ((bytes : List ℕ) → order_of (before_first is_line_feed bytes) ≡ order → 1 ≤ position_or_len is_line_feed bytes) → IfSome input (λ given. IsDone (course answer first given) stores s old new)
+way_halt answer first s input order a x old new stores between ends one = more input _ _ step between
+  where
+    step : (given : List ℕ) → input ≡ Some given → IsBetween answer first given s order a x old new → IsDone (course answer first given) stores s old new
+    step given e w =
+        let letter = one w.bytes (sym w.order_is) in
+        let within : w.before + 1 ≤ INPUT_BYTES = omega (arith, w.within, letter) in
+        rw (ends given w) (record { state_is = refl; stores_is = refl; within = within; written = w.written })
+
 -- the order to quit
 pub way_quit : {S : Type 0} (answer : Answers S) (first s : S) (input : Option (List ℕ)) (order : Order) (a : IntakeSeen) (x old new : Option (List ℕ)) → Between answer first input s order a x old new → order ≡ Quit
     → IfSome input (λ given. IsDone (course answer first given) false s old new)
-way_quit answer first s input order a x old new between is = more input _ _ step between
-  where
-    step : (given : List ℕ) → input ≡ Some given → IsBetween answer first given s order a x old new → IsDone (course answer first given) false s old new
-    step given e w =
-        let q : order_of (before_first is_line_feed w.bytes) ≡ Quit = sym w.order_is ∙ is in
-        let all = comes_quit answer (course answer first given) w.replies w.before s w.bytes w.comes w.some (ap (λ c. c.request) (cut_is w.bytes Quit (sym q))) in
-        let one = quit_letter_size w.bytes q in
-        let within : w.before + 1 ≤ INPUT_BYTES = omega (arith, w.within) in
-        rw all (record { state_is = refl; stores_is = refl; within = within; written = w.written })
+way_quit answer first s input order a x old new between is = way_halt answer first s input order a x old new false between
+    (λ given w. comes_quit answer (course answer first given) w.replies w.before s w.bytes w.comes w.some (ap (λ c. c.request) (cut_is w.bytes Quit (sym is ∙ w.order_is)))) (λ bytes q. quit_letter_size bytes (q ∙ is))
 
 -- the order to store
 stored_course : {S : Type 0} (answer : Answers S) (first s : S) (given : List ℕ) (order : Order) (a : IntakeSeen) (x old new : Option (List ℕ)) (w : IsBetween answer first given s order a x old new) → order ≡ Store
@@ -236,13 +250,8 @@ stored_course answer first s given order a x old new w is =
 
 pub way_store : {S : Type 0} (answer : Answers S) (first s : S) (input : Option (List ℕ)) (order : Order) (a : IntakeSeen) (x old new : Option (List ℕ)) → Between answer first input s order a x old new → order ≡ Store
     → IfSome input (λ given. IsDone (course answer first given) true s old new)
-way_store answer first s input order a x old new between is = more input _ _ step between
-  where
-    step : (given : List ℕ) → input ≡ Some given → IsBetween answer first given s order a x old new → IsDone (course answer first given) true s old new
-    step given e w =
-        let one = store_letter_size w.bytes (sym w.order_is ∙ is) in
-        let within : w.before + 1 ≤ INPUT_BYTES = omega (arith, w.within, one) in
-        rw (stored_course answer first s given order a x old new w is) (record { state_is = refl; stores_is = refl; within = within; written = w.written })
+way_store answer first s input order a x old new between is = way_halt answer first s input order a x old new true between
+    (λ given w. stored_course answer first s given order a x old new w is) (λ bytes q. omega (arith, store_letter_size bytes (q ∙ is)))
 
 -- what follows it
 drop_behind : (front bytes : List ℕ) (k : ℕ) → drop (length front + k) (front ++ bytes) ≡ drop k bytes
@@ -372,11 +381,9 @@ reply_cut answer first s t input order reply a b x y old mid new between other r
     step : (given : List ℕ) → input ≡ Some given → IsBetween answer first given s order a x old mid → IsCutShort old new (course answer first given).replies
     step given e w =
         let size = line_size w.bytes in
-        let rest = drop size w.bytes in
+        let k = cut_after order (drop size w.bytes) in
         let r = subst (λ (o : Option (List ℕ)). IfSome o (λ bytes. IsReplied (answer s) bytes order reply t a b y)) w.to_come_is (replied w.known) in
-        let k = cut_after order rest in
-        let is : (cut w.bytes) ≡ with_line size k = cut_is w.bytes order w.order_is in
-        let on = comes_next answer (course answer first given) w.replies w.before s w.bytes k.request (size + k.size) w.comes w.some (ap (λ c. c.request) is) (ap (λ c. c.size) is) (plain_cut order rest other) in
+        let on = comes_behind answer first s given order a x old mid w other in
         let last = course answer (answer s k.request).state (drop (size + k.size) w.bytes) in
         let said : reply ≡ (answer s k.request).reply = (r.answered).reply_is in
         let whole : (course answer first given).replies ≡ w.replies ++ (reply ++ last.replies) = ap (λ (c : Course _). c.replies) on.course_is ∙ append_assoc w.replies (answer s k.request).reply last.replies ∙ ap (λ (l : List ℕ). w.replies ++ (l ++ last.replies)) (sym said) in
