@@ -372,17 +372,13 @@ answer_alike d f (Does orders.Undo) g h =
     let k = caught_up_stays d f h in
     told_rested_alike e u _ _ _ _ h.tells (undone_alike e u k) (undo_almost e u k)
 answer_alike d f (Does orders.Back) g h =
-    let e = with_begun by_parts d in
-    let u = with_begun by_history f in
     let b = steps_begun d.state f.state d.recorded f.recorded h.stands h.steps in
     let k = begun_stays d f h in
-    told_rested_alike e u _ _ _ _ h.tells (turned_changes e u b k).0 (backed_almost e u b k)
+    told_rested_alike (with_begun by_parts d) (with_begun by_history f) _ _ _ _ h.tells (turned_changes _ _ b k).0 (backed_almost _ _ b k)
 answer_alike d f (Does orders.Again) g h =
-    let e = with_begun by_parts d in
-    let u = with_begun by_history f in
     let b = steps_begun d.state f.state d.recorded f.recorded h.stands h.steps in
     let k = begun_stays d f h in
-    told_rested_alike e u _ _ _ _ h.tells (turned_changes e u b k).1 (redone_almost e u b k)
+    told_rested_alike (with_begun by_parts d) (with_begun by_history f) _ _ _ _ h.tells (turned_changes _ _ b k).1 (redone_almost _ _ b k)
 answer_alike d f (Does orders.Close) g h = ended_alike d f h
 answer_alike d f (Does (orders.Point side at n)) g h = pointed_alike d f side at n h
 answer_alike d f (Does (orders.Place n)) g h = where_alike d f n h

@@ -20,7 +20,7 @@ use Rattle.rls_session.specs.Answers as answers
 use Rattle.rls_session.specs.Courses.{Answered}
 use Rattle.rls_session.specs.Replies.{again_text, back_text, groups_text, nothing_text}
 use Rattle.rls_session.specs.Sessions.{by_history, by_parts}
-use Rattle.rls_session.proofs.Steps.{AreBegun, kept_steps, steps_alike, steps_begun}
+use Rattle.rls_session.proofs.Steps.{AreBegun, AreStepsAlike, kept_steps, steps_alike, steps_begun}
 use Rattle.rls_file.proofs.Characters.{text_chars}
 use Rattle.rls_session.proofs.Whole.{whole_on}
 use Rattle.rls_session.proofs.AlikeSittings.{IsAlike, AreAlike, AreAlmost, almost, performed_storing}
@@ -47,23 +47,21 @@ turned_almost d f text a b es h k p = record {
   };
 }
 
+-- as far as there is one
+group_almost : (d : Sitting Seen) (f : Sitting State) (text : ℕ → List ℕ) (stack : Recorded → List Step) (a : Turned Seen) (b : Recorded → Turned State) (es : List Edit) → IsAlike d f → grounds.AreAlike a (b d.recorded) → grounds.ArePerformed d.state es a.state →
+    AreAlmost (if_steps (stack d.recorded) (answers.says nothing_text d) (answers.turned by_parts d text a)) (if_steps (stack f.recorded) (answers.says nothing_text f) (answers.turned by_history f text (b f.recorded)))
+group_almost d f text stack a b es h k p =
+    let whole = if_steps (stack d.recorded) (answers.says nothing_text d) (answers.turned by_parts d text a) in
+    subst (λ (r : Recorded). AreAlmost whole (if_steps (stack r) (answers.says nothing_text f) (answers.turned by_history f text (b r)))) (h.steps).same
+    (none_almost d f (stack d.recorded) _ _ h (turned_almost d f text a (b d.recorded) es h k p))
+
 pub backed_almost : (d : Sitting Seen) (f : Sitting State) → AreBegun d.state d.recorded f.recorded → IsAlike d f → AreAlmost (answers.backed by_parts d) (answers.backed by_history f)
 backed_almost d f g h =
-    let s = d.state in
-    let r = d.recorded in
-    let k = (turned_alike text_chars s f.state r h.stands h.sane g.kept g.spelled).0 in
-    let p = (turned_performed s r h.sane g.spelled).0 in
-    subst (λ (q : Recorded). AreAlmost (answers.backed by_parts d) (if_steps q.past (answers.says nothing_text f) (answers.turned by_history f back_text (back_on within f.state q)))) (h.steps).same
-    (none_almost d f r.past _ _ h (turned_almost d f back_text (back_on over s r) (back_on within f.state r) (back_edits over s r) h k p))
+    group_almost d f back_text (λ r. r.past) _ (back_on within f.state) _ h (turned_alike text_chars d.state f.state d.recorded h.stands h.sane g.kept g.spelled).0 (turned_performed d.state d.recorded h.sane g.spelled).0
 
 pub redone_almost : (d : Sitting Seen) (f : Sitting State) → AreBegun d.state d.recorded f.recorded → IsAlike d f → AreAlmost (answers.redone by_parts d) (answers.redone by_history f)
 redone_almost d f g h =
-    let s = d.state in
-    let r = d.recorded in
-    let k = (turned_alike text_chars s f.state r h.stands h.sane g.kept g.spelled).1 in
-    let p = (turned_performed s r h.sane g.spelled).1 in
-    subst (λ (q : Recorded). AreAlmost (answers.redone by_parts d) (if_steps q.future (answers.says nothing_text f) (answers.turned by_history f again_text (again_on within f.state q)))) (h.steps).same
-    (none_almost d f r.future _ _ h (turned_almost d f again_text (again_on over s r) (again_on within f.state r) (again_edits over s r) h k p))
+    group_almost d f again_text (λ r. r.future) _ (again_on within f.state) _ h (turned_alike text_chars d.state f.state d.recorded h.stands h.sane g.kept g.spelled).1 (turned_performed d.state d.recorded h.sane g.spelled).1
 
 -- the same edits
 turned_same : (d : Sitting Seen) (f : Sitting State) → AreBegun d.state d.recorded f.recorded → IsAlike d f →
@@ -83,33 +81,18 @@ turned_whole d f g h =
     let p = turned_performed d.state d.recorded h.sane g.spelled in
     (subst AreEdits e.0 (p.0).whole, subst AreEdits e.1 (p.1).whole)
 
+-- as long as what is recorded is
+recorded_alike : (d : Sitting Seen) (f : Sitting State) (r q : Recorded) → IsAlike d f → AreStepsAlike d.state r q → IsAlike (answers.with_recorded d r) (answers.with_recorded f q)
+recorded_alike d f r q h steps =
+    record { stands = h.stands; sane = h.sane; writable = h.writable; entries = h.entries; cursors = h.cursors; tells = h.tells; whole = h.whole; texts = h.texts; steps = steps }
+
 -- what is recorded has begun
 pub begun_stays : (d : Sitting Seen) (f : Sitting State) → IsAlike d f → IsAlike (with_begun by_parts d) (with_begun by_history f)
-begun_stays d f h = record {
-  stands = h.stands;
-  sane = h.sane;
-  writable = h.writable;
-  entries = h.entries;
-  cursors = h.cursors;
-  tells = h.tells;
-  whole = h.whole;
-  texts = h.texts;
-  steps = steps_alike d.state (begun_on over d.state d.recorded) (begun_on within (f.state) f.recorded) (steps_begun d.state f.state d.recorded f.recorded h.stands h.steps);
-}
+begun_stays d f h = recorded_alike d f _ _ h (steps_alike d.state (begun_on over d.state d.recorded) (begun_on within (f.state) f.recorded) (steps_begun d.state f.state d.recorded f.recorded h.stands h.steps))
 
 -- the group that is open is ended
 pub ended_alike : (d : Sitting Seen) (f : Sitting State) → IsAlike d f → AreAlike (answers.ended d) (answers.ended f)
 ended_alike d f h = record {
   reply = ap (λ (r : Recorded). groups_text (group_count r.past) (group_count r.future)) (h.steps).same;
-  states = record {
-    stands = h.stands;
-    sane = h.sane;
-    writable = h.writable;
-    entries = h.entries;
-    cursors = h.cursors;
-    tells = h.tells;
-    whole = h.whole;
-    texts = h.texts;
-    steps = record { same = ap closed (h.steps).same; kept = (h.steps).kept; spelled = (h.steps).spelled };
-  };
+  states = recorded_alike d f _ _ h (record { same = ap closed (h.steps).same; kept = (h.steps).kept; spelled = (h.steps).spelled });
 }
