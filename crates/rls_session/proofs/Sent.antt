@@ -73,22 +73,7 @@ sent_after d (orders.Take n) rest f = go (nat_le n (length rest))
     go true = tt
     go false = tt
 sent_after d (orders.Send to) rest f = f
-sent_after d (orders.Edit line) rest f = tt
-sent_after d orders.Undo rest f = tt
-sent_after d orders.Back rest f = tt
-sent_after d orders.Again rest f = tt
-sent_after d orders.Close rest f = tt
-sent_after d (orders.Point side at n) rest f = tt
-sent_after d (orders.Place n) rest f = tt
-sent_after d (orders.Spell at) rest f = tt
-sent_after d (orders.Locate place) rest f = tt
-sent_after d orders.Text rest f = tt
-sent_after d orders.Stat rest f = tt
-sent_after d orders.Version rest f = tt
-sent_after d orders.Store rest f = tt
-sent_after d (orders.Tell on) rest f = tt
-sent_after d orders.Quit rest f = tt
-sent_after d orders.Bad rest f = tt
+sent_after d order rest f = tt
 
 module _ (first d : Sitting Seen) (input : Option (List ℕ)) (a b : IntakeSeen) (x y old new : Option (List ℕ)) (way : OnWay (answer by_parts) first input d a x old new) (sent : AreSent first input d a x) where
   -- what is to come, and what is known of it
