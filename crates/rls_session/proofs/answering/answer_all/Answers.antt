@@ -36,52 +36,47 @@ returns-in-Err-clause-prompt g c = λ e.
     way_prompt (answer by_parts) (resumed by_parts) c.args.desk.now c.loop-error.desk (known_come c.args.intake.now (g.S.Source.left c.args.input.now)) c.loop-error.intake c.next_order.new.intake (g.S.Source.left c.loop-error.input) (g.S.Source.left c.next_order.new.input) (g.W.Sink.told c.args.output.now) (g.W.Sink.told c.loop-error.output) c.loop-error.invariant.way unread.0 c.in-Err.ensures.stays_ended unread.1 unread.2
 
 pub returns-in-Err-clause-near : goal.returns-in-Err-clause-near
-returns-in-Err-clause-near g c =
-    way_near (answer by_parts) c.args.desk.now c.loop-error.desk (known_come c.args.intake.now (g.S.Source.left c.args.input.now)) c.loop-error.intake (g.S.Source.left c.loop-error.input) (g.S.Source.left c.next_order.new.input) (g.W.Sink.told c.args.output.now) (g.W.Sink.told c.loop-error.output) c.loop-error.invariant.way (c.next_order.ensures.near c.loop-error.invariant.short)
+returns-in-Err-clause-near g c = way_near _ _ _ _ _ _ _ _ _ c.loop-error.invariant.way (c.next_order.ensures.near c.loop-error.invariant.short)
 
 pub returns-in-Ok-None-clause-near : goal.returns-in-Ok-None-clause-near
-returns-in-Ok-None-clause-near g c =
-    way_near (answer by_parts) c.args.desk.now c.loop-error.desk (known_come c.args.intake.now (g.S.Source.left c.args.input.now)) c.loop-error.intake (g.S.Source.left c.loop-error.input) (g.S.Source.left c.next_order.new.input) (g.W.Sink.told c.args.output.now) (g.W.Sink.told c.loop-error.output) c.loop-error.invariant.way (c.next_order.ensures.near c.loop-error.invariant.short)
+returns-in-Ok-None-clause-near g c = way_near _ _ _ _ _ _ _ _ _ c.loop-error.invariant.way (c.next_order.ensures.near c.loop-error.invariant.short)
 
 pub returns-in-Quit-clause-near : goal.returns-in-Quit-clause-near
-returns-in-Quit-clause-near g c =
-    way_near (answer by_parts) c.args.desk.now c.loop-error.desk (known_come c.args.intake.now (g.S.Source.left c.args.input.now)) c.loop-error.intake (g.S.Source.left c.loop-error.input) (g.S.Source.left c.next_order.new.input) (g.W.Sink.told c.args.output.now) (g.W.Sink.told c.loop-error.output) c.loop-error.invariant.way (c.next_order.ensures.near c.loop-error.invariant.short)
+returns-in-Quit-clause-near g c = way_near _ _ _ _ _ _ _ _ _ c.loop-error.invariant.way (c.next_order.ensures.near c.loop-error.invariant.short)
 
 pub returns-in-Quit-clause-done : goal.returns-in-Quit-clause-done
-returns-in-Quit-clause-done g c =
-    let between = way_order (answer by_parts) c.args.desk.now c.loop-error.desk (known_come c.args.intake.now (g.S.Source.left c.args.input.now)) _ c.in-Ok-Some.order c.loop-error.intake c.next_order.new.intake (g.S.Source.left c.loop-error.input) (g.S.Source.left c.next_order.new.input) (g.W.Sink.told c.args.output.now) (g.W.Sink.told c.loop-error.output) c.loop-error.invariant.way c.in-Ok-Some.field-0-is c.in-Ok-Some.ensures.next c.in-Ok-Some.ensures.known c.in-Ok-Some.ensures.stays_ended in
-    way_quit (answer by_parts) c.args.desk.now c.loop-error.desk (known_come c.args.intake.now (g.S.Source.left c.args.input.now)) c.in-Ok-Some.order c.next_order.new.intake (g.S.Source.left c.next_order.new.input) (g.W.Sink.told c.args.output.now) (g.W.Sink.told c.loop-error.output) between c.in-Quit.is
+returns-in-Quit-clause-done g c = way_quit _ _ _ _ _ _ _ _ _ (way_order _ _ _ _ _ _ _ _ _ _ _ _ c.loop-error.invariant.way c.in-Ok-Some.field-0-is c.in-Ok-Some.ensures.next c.in-Ok-Some.ensures.known c.in-Ok-Some.ensures.stays_ended) c.in-Quit.is
 
 pub returns-in-Err-reply_to-clause-part : goal.returns-in-Err-reply_to-clause-part
 returns-in-Err-reply_to-clause-part g c =
-    let between = way_order (answer by_parts) c.args.desk.now c.loop-error.desk (known_come c.args.intake.now (g.S.Source.left c.args.input.now)) _ c.in-Ok-Some.order c.loop-error.intake c.next_order.new.intake (g.S.Source.left c.loop-error.input) (g.S.Source.left c.next_order.new.input) (g.W.Sink.told c.args.output.now) (g.W.Sink.told c.loop-error.output) c.loop-error.invariant.way c.in-Ok-Some.field-0-is c.in-Ok-Some.ensures.next c.in-Ok-Some.ensures.known c.in-Ok-Some.ensures.stays_ended in
+    let between = way_order _ _ _ _ _ _ _ _ _ _ _ _ c.loop-error.invariant.way c.in-Ok-Some.field-0-is c.in-Ok-Some.ensures.next c.in-Ok-Some.ensures.known c.in-Ok-Some.ensures.stays_ended in
     between_part (answer by_parts) c.args.desk.now c.loop-error.desk (known_come c.args.intake.now (g.S.Source.left c.args.input.now)) c.in-Ok-Some.order c.next_order.new.intake (g.S.Source.left c.next_order.new.input) (g.W.Sink.told c.args.output.now) (g.W.Sink.told c.loop-error.output) between
 
 pub returns-in-Err-reply_to-clause-too_large : goal.returns-in-Err-reply_to-clause-too_large
 returns-in-Err-reply_to-clause-too_large g c = λ e.
-    let between = way_order (answer by_parts) c.args.desk.now c.loop-error.desk (known_come c.args.intake.now (g.S.Source.left c.args.input.now)) _ c.in-Ok-Some.order c.loop-error.intake c.next_order.new.intake (g.S.Source.left c.loop-error.input) (g.S.Source.left c.next_order.new.input) (g.W.Sink.told c.args.output.now) (g.W.Sink.told c.loop-error.output) c.loop-error.invariant.way c.in-Ok-Some.field-0-is c.in-Ok-Some.ensures.next c.in-Ok-Some.ensures.known c.in-Ok-Some.ensures.stays_ended in
+    let between = way_order _ _ _ _ _ _ _ _ _ _ _ _ c.loop-error.invariant.way c.in-Ok-Some.field-0-is c.in-Ok-Some.ensures.next c.in-Ok-Some.ensures.known c.in-Ok-Some.ensures.stays_ended in
     let full = c.in-Err-reply_to.ensures.too_large (ap Err (too_large_of c.in-Err-reply_to.error c.from-in-Err-reply_to.result c.from-in-Err-reply_to.ensures e)) in
     between_full (answer by_parts) c.args.desk.now c.loop-error.desk (known_come c.args.intake.now (g.S.Source.left c.args.input.now)) c.in-Ok-Some.order c.next_order.new.intake c.reply_to.new.intake (g.S.Source.left c.next_order.new.input) (g.S.Source.left c.reply_to.new.input) (g.W.Sink.told c.args.output.now) (g.W.Sink.told c.loop-error.output) between full.0 full.1 full.2
 
 pub returns-in-Err-reply_to-clause-prompt : goal.returns-in-Err-reply_to-clause-prompt
 returns-in-Err-reply_to-clause-prompt g c = λ e.
-    let between = way_order (answer by_parts) c.args.desk.now c.loop-error.desk (known_come c.args.intake.now (g.S.Source.left c.args.input.now)) _ c.in-Ok-Some.order c.loop-error.intake c.next_order.new.intake (g.S.Source.left c.loop-error.input) (g.S.Source.left c.next_order.new.input) (g.W.Sink.told c.args.output.now) (g.W.Sink.told c.loop-error.output) c.loop-error.invariant.way c.in-Ok-Some.field-0-is c.in-Ok-Some.ensures.next c.in-Ok-Some.ensures.known c.in-Ok-Some.ensures.stays_ended in
+    let between = way_order _ _ _ _ _ _ _ _ _ _ _ _ c.loop-error.invariant.way c.in-Ok-Some.field-0-is c.in-Ok-Some.ensures.next c.in-Ok-Some.ensures.known c.in-Ok-Some.ensures.stays_ended in
     let unread = c.in-Err-reply_to.ensures.unread (ap Err (fault_of c.in-Err-reply_to.error c.from-in-Err-reply_to.result c.from-in-Err-reply_to.ensures e)) in
     between_prompt (answer by_parts) (resumed by_parts) c.args.desk.now c.loop-error.desk (known_come c.args.intake.now (g.S.Source.left c.args.input.now)) c.in-Ok-Some.order c.next_order.new.intake c.reply_to.new.intake (g.S.Source.left c.next_order.new.input) (g.S.Source.left c.reply_to.new.input) (g.W.Sink.told c.args.output.now) (g.W.Sink.told c.loop-error.output) between unread.0 c.in-Err-reply_to.ensures.stays_ended unread.1 unread.2
 
 pub returns-in-Err-reply_to-clause-near : goal.returns-in-Err-reply_to-clause-near
 returns-in-Err-reply_to-clause-near g c =
-    let between = way_order (answer by_parts) c.args.desk.now c.loop-error.desk (known_come c.args.intake.now (g.S.Source.left c.args.input.now)) _ c.in-Ok-Some.order c.loop-error.intake c.next_order.new.intake (g.S.Source.left c.loop-error.input) (g.S.Source.left c.next_order.new.input) (g.W.Sink.told c.args.output.now) (g.W.Sink.told c.loop-error.output) c.loop-error.invariant.way c.in-Ok-Some.field-0-is c.in-Ok-Some.ensures.next c.in-Ok-Some.ensures.known c.in-Ok-Some.ensures.stays_ended in
+    let between = way_order _ _ _ _ _ _ _ _ _ _ _ _ c.loop-error.invariant.way c.in-Ok-Some.field-0-is c.in-Ok-Some.ensures.next c.in-Ok-Some.ensures.known c.in-Ok-Some.ensures.stays_ended in
     between_near (answer by_parts) c.args.desk.now c.loop-error.desk (known_come c.args.intake.now (g.S.Source.left c.args.input.now)) c.in-Ok-Some.order c.next_order.new.intake (g.S.Source.left c.next_order.new.input) (g.S.Source.left c.reply_to.new.input) (g.W.Sink.told c.args.output.now) (g.W.Sink.told c.loop-error.output) between (λ q. c.in_default.not-Quit q, λ q. c.in_default.not-Store q) (c.reply_to.ensures.near (c.in-Ok-Some.ensures.few c.loop-error.invariant.short))
 
 pub returns-in-Err-write-clause-near : goal.returns-in-Err-write-clause-near
 returns-in-Err-write-clause-near g c =
-    let between = way_order (answer by_parts) c.args.desk.now c.loop-error.desk (known_come c.args.intake.now (g.S.Source.left c.args.input.now)) _ c.in-Ok-Some.order c.loop-error.intake c.next_order.new.intake (g.S.Source.left c.loop-error.input) (g.S.Source.left c.next_order.new.input) (g.W.Sink.told c.args.output.now) (g.W.Sink.told c.loop-error.output) c.loop-error.invariant.way c.in-Ok-Some.field-0-is c.in-Ok-Some.ensures.next c.in-Ok-Some.ensures.known c.in-Ok-Some.ensures.stays_ended in
+    let between = way_order _ _ _ _ _ _ _ _ _ _ _ _ c.loop-error.invariant.way c.in-Ok-Some.field-0-is c.in-Ok-Some.ensures.next c.in-Ok-Some.ensures.known c.in-Ok-Some.ensures.stays_ended in
     between_near (answer by_parts) c.args.desk.now c.loop-error.desk (known_come c.args.intake.now (g.S.Source.left c.args.input.now)) c.in-Ok-Some.order c.next_order.new.intake (g.S.Source.left c.next_order.new.input) (g.S.Source.left c.reply_to.new.input) (g.W.Sink.told c.args.output.now) (g.W.Sink.told c.loop-error.output) between (λ q. c.in_default.not-Quit q, λ q. c.in_default.not-Store q) (c.reply_to.ensures.near (c.in-Ok-Some.ensures.few c.loop-error.invariant.short))
 
 pub returns-in-Err-write-clause-cut : goal.returns-in-Err-write-clause-cut
 returns-in-Err-write-clause-cut g c = λ e.
-    let between = way_order (answer by_parts) c.args.desk.now c.loop-error.desk (known_come c.args.intake.now (g.S.Source.left c.args.input.now)) _ c.in-Ok-Some.order c.loop-error.intake c.next_order.new.intake (g.S.Source.left c.loop-error.input) (g.S.Source.left c.next_order.new.input) (g.W.Sink.told c.args.output.now) (g.W.Sink.told c.loop-error.output) c.loop-error.invariant.way c.in-Ok-Some.field-0-is c.in-Ok-Some.ensures.next c.in-Ok-Some.ensures.known c.in-Ok-Some.ensures.stays_ended in
+    let between = way_order _ _ _ _ _ _ _ _ _ _ _ _ c.loop-error.invariant.way c.in-Ok-Some.field-0-is c.in-Ok-Some.ensures.next c.in-Ok-Some.ensures.known c.in-Ok-Some.ensures.stays_ended in
     reply_cut (answer by_parts) c.args.desk.now c.loop-error.desk c.reply_to.new.desk (known_come c.args.intake.now (g.S.Source.left c.args.input.now)) c.in-Ok-Some.order c.in-Ok.reply.items c.next_order.new.intake c.reply_to.new.intake (g.S.Source.left c.next_order.new.input) (g.S.Source.left c.reply_to.new.input) (g.W.Sink.told c.args.output.now) (g.W.Sink.told c.loop-error.output) (g.W.Sink.told c.write.new.output) between (λ q. c.in_default.not-Quit q, λ q. c.in_default.not-Store q) c.in-Ok.ensures.reply
     (subst (IsCutShort (g.W.Sink.told c.loop-error.output) (g.W.Sink.told c.write.new.output)) c.deref.ensures.value c.in-Err-write.ensures.err)
 
@@ -98,7 +93,7 @@ returns-in-Err-reply_to-clause-cut g c = λ e. absurd (not_sink c.in-Err-reply_t
 
 pub loop-error-preserved : goal.loop-error-preserved
 loop-error-preserved g c =
-    let between = way_order (answer by_parts) c.args.desk.now c.loop-error.desk (known_come c.args.intake.now (g.S.Source.left c.args.input.now)) _ c.in-Ok-Some.order c.loop-error.intake c.next_order.new.intake (g.S.Source.left c.loop-error.input) (g.S.Source.left c.next_order.new.input) (g.W.Sink.told c.args.output.now) (g.W.Sink.told c.loop-error.output) c.loop-error.invariant.way c.in-Ok-Some.field-0-is c.in-Ok-Some.ensures.next c.in-Ok-Some.ensures.known c.in-Ok-Some.ensures.stays_ended in
+    let between = way_order _ _ _ _ _ _ _ _ _ _ _ _ c.loop-error.invariant.way c.in-Ok-Some.field-0-is c.in-Ok-Some.ensures.next c.in-Ok-Some.ensures.known c.in-Ok-Some.ensures.stays_ended in
     record {
       ended = λ e. c.in-Ok.ensures.stays_ended (c.in-Ok-Some.ensures.stays_ended (c.loop-error.invariant.ended e));
       short = c.in-Ok.ensures.few (c.in-Ok-Some.ensures.few c.loop-error.invariant.short);
@@ -118,17 +113,14 @@ pub returns-in-Quit-clause-sent : goal.returns-in-Quit-clause-sent
 returns-in-Quit-clause-sent g c = λ w. sent_quit c.args.desk.now c.loop-error.desk (known_come c.args.intake.now (g.S.Source.left c.args.input.now)) c.loop-error.intake c.next_order.new.intake (g.S.Source.left c.loop-error.input) (g.S.Source.left c.next_order.new.input) (g.W.Sink.told c.args.output.now) (g.W.Sink.told c.loop-error.output) c.loop-error.invariant.way (c.loop-error.invariant.sent w) _ c.in-Ok-Some.order c.in-Ok-Some.field-0-is c.in-Ok-Some.ensures.next c.in-Quit.is
 
 pub returns-in-Store-clause-near : goal.returns-in-Store-clause-near
-returns-in-Store-clause-near g c =
-    way_near (answer by_parts) c.args.desk.now c.loop-error.desk (known_come c.args.intake.now (g.S.Source.left c.args.input.now)) c.loop-error.intake (g.S.Source.left c.loop-error.input) (g.S.Source.left c.next_order.new.input) (g.W.Sink.told c.args.output.now) (g.W.Sink.told c.loop-error.output) c.loop-error.invariant.way (c.next_order.ensures.near c.loop-error.invariant.short)
+returns-in-Store-clause-near g c = way_near _ _ _ _ _ _ _ _ _ c.loop-error.invariant.way (c.next_order.ensures.near c.loop-error.invariant.short)
 
 pub returns-in-Store-clause-done : goal.returns-in-Store-clause-done
-returns-in-Store-clause-done g c =
-    let between = way_order (answer by_parts) c.args.desk.now c.loop-error.desk (known_come c.args.intake.now (g.S.Source.left c.args.input.now)) _ c.in-Ok-Some.order c.loop-error.intake c.next_order.new.intake (g.S.Source.left c.loop-error.input) (g.S.Source.left c.next_order.new.input) (g.W.Sink.told c.args.output.now) (g.W.Sink.told c.loop-error.output) c.loop-error.invariant.way c.in-Ok-Some.field-0-is c.in-Ok-Some.ensures.next c.in-Ok-Some.ensures.known c.in-Ok-Some.ensures.stays_ended in
-    way_store (answer by_parts) c.args.desk.now c.loop-error.desk (known_come c.args.intake.now (g.S.Source.left c.args.input.now)) c.in-Ok-Some.order c.next_order.new.intake (g.S.Source.left c.next_order.new.input) (g.W.Sink.told c.args.output.now) (g.W.Sink.told c.loop-error.output) between c.in-Store.is
+returns-in-Store-clause-done g c = way_store _ _ _ _ _ _ _ _ _ (way_order _ _ _ _ _ _ _ _ _ _ _ _ c.loop-error.invariant.way c.in-Ok-Some.field-0-is c.in-Ok-Some.ensures.next c.in-Ok-Some.ensures.known c.in-Ok-Some.ensures.stays_ended) c.in-Store.is
 
 pub returns-in-Store-clause-paused : goal.returns-in-Store-clause-paused
 returns-in-Store-clause-paused g c = λ e.
-    let between = way_order (answer by_parts) c.args.desk.now c.loop-error.desk (known_come c.args.intake.now (g.S.Source.left c.args.input.now)) _ c.in-Ok-Some.order c.loop-error.intake c.next_order.new.intake (g.S.Source.left c.loop-error.input) (g.S.Source.left c.next_order.new.input) (g.W.Sink.told c.args.output.now) (g.W.Sink.told c.loop-error.output) c.loop-error.invariant.way c.in-Ok-Some.field-0-is c.in-Ok-Some.ensures.next c.in-Ok-Some.ensures.known c.in-Ok-Some.ensures.stays_ended in
+    let between = way_order _ _ _ _ _ _ _ _ _ _ _ _ c.loop-error.invariant.way c.in-Ok-Some.field-0-is c.in-Ok-Some.ensures.next c.in-Ok-Some.ensures.known c.in-Ok-Some.ensures.stays_ended in
     way_paused (answer by_parts) c.args.desk.now c.loop-error.desk (known_come c.args.intake.now (g.S.Source.left c.args.input.now)) c.in-Ok-Some.order c.next_order.new.intake (g.S.Source.left c.next_order.new.input) (g.W.Sink.told c.args.output.now) (g.W.Sink.told c.loop-error.output) between c.in-Store.is
 
 pub returns-in-Store-clause-sent : goal.returns-in-Store-clause-sent
