@@ -162,7 +162,7 @@ way_order answer first s input o order a b x y old new way is next keeps stays =
 -- what comes behind an order that is answered
 comes_behind : {S : Type 0} (answer : Answers S) (first s : S) (given : List ℕ) (order : Order) (a : IntakeSeen) (x old new : Option (List ℕ)) (w : IsBetween answer first given s order a x old new) → IsPlainOrder order
     → Comes answer (course answer first given) (w.replies ++ (answer s (cut_after order (drop (line_size w.bytes) w.bytes)).request).reply) (w.before + (line_size w.bytes + (cut_after order (drop (line_size w.bytes) w.bytes)).size))
-        (answer s (cut_after order (drop (line_size w.bytes) w.bytes)).request).state (drop (line_size w.bytes + (cut_after order (drop (line_size w.bytes) w.bytes)).size) w.bytes)
+    (answer s (cut_after order (drop (line_size w.bytes) w.bytes)).request).state (drop (line_size w.bytes + (cut_after order (drop (line_size w.bytes) w.bytes)).size) w.bytes)
 comes_behind answer first s given order a x old new w other =
     let rest = drop (line_size w.bytes) w.bytes in
     let k = cut_after order rest in

@@ -17,7 +17,7 @@ pub returns-in-Err-clause-kept : goal.returns-in-Err-clause-kept
 returns-in-Err-clause-kept c = λ e is h.
     let there = got _ _ _ (at_within _ _ _ _ c.self.view_is c.in-Some.ensures.some) c.index.ensures in
     let d = (c.in-Err.ensures.dropped e).0 (err_as _ _ is) in
-    anchor_not_dropped _ _ e (anchored_at _ _ _ _ there (subst (AreAnchored c.args.replica.now) (sym c.self.view_is) h)) d.0 d.1
+    anchor_not_dropped c.args.replica.now _ e (anchored_at c.args.replica.now _ _ _ there (subst (AreAnchored c.args.replica.now) (sym c.self.view_is) h)) d.0 d.1
 
 pub returns-in-Ok-clause-place : goal.returns-in-Ok-clause-place
 returns-in-Ok-clause-place c =
