@@ -1,6 +1,6 @@
 -- What is answered, from its parts.
 use Rattle.std.proofs.Common.{◌≡◌, ◌∙◌, ◌<◌, ◌≤◌, ◌+◌, ◌-◌, ℕ, Bool, suc, true, false, ltb, List, [], ◌∷◌, ◌++◌, length, Option, Some, None, Result, Ok, Err, IfOk, OnOk, OnErr, append-nil, refl, sym, ap, subst, arith, get_or}
-use Rattle.std.specs.Prelude.{IsTrue, codes}
+use Rattle.std.specs.Prelude.{IsTrue, ◌↔◌, codes}
 use Rattle.std.proofs.lemmas.Bool.Decides.{nat_tests}
 use Rattle.std.proofs.lemmas.Option.{slice_get-get_or}
 use Rattle.rls_runs.specs.Entries.{Entries, chars_in}
@@ -39,12 +39,14 @@ use Rattle.rls_anchor.specs.declared.anchor.Anchor.{Anchor}
 use Rattle.rls_anchor.specs.Anchors.{anchor_over}
 use Rattle.rls_stages.proofs.Kept.{is_ours, not_for}
 use Rattle.rls_session.specs.Answering.{IsAnswered}
+use Rattle.rls_session.specs.declared.desk.Turn.{Turn}
+use Rattle.rls_session.specs.declared.desk.Turn.TheVariants as turns
 use Rattle.rls_session.specs.declared.orders.Side.{Side}
-use Rattle.rls_session.specs.Answers.{Sitting, edited, if_steps, made_sitting, says, told_rested, turned, turned_reply, with_changes, with_begun, with_entries, with_recorded, pointed, sent, spelled, taken, undone, undone_changes, with_cursors, with_state}
+use Rattle.rls_session.specs.Answers.{Sitting, edited, if_steps, made_sitting, says, told_rested, turn_text, turned, turned_group, turned_reply, with_changes, with_begun, with_entries, with_recorded, pointed, sent, spelled, taken, undone, undone_changes, with_cursors, with_state}
 use Rattle.rls_session.specs.declared.cursors.Cursor.{Cursor}
 use Rattle.rls_session.specs.Cursors.{cursors_with}
-use Rattle.rls_session.specs.Desks.{TellsFault, planned_changes, sitting_of}
-use Rattle.rls_session.specs.Replies.{anchor_text, ok_text, undone_text, nothing_text, cursor_text, bytes_text, refused_text, failed_text}
+use Rattle.rls_session.specs.Desks.{IsTurnTold, TellsFault, planned_changes, sitting_of}
+use Rattle.rls_session.specs.Replies.{again_text, anchor_text, back_text, ok_text, undone_text, nothing_text, cursor_text, bytes_text, refused_text, failed_text}
 use Rattle.rls_session.specs.Sessions.{by_parts}
 
 -- what holds of an answer
@@ -170,9 +172,32 @@ none_turned d e (x ∷ xs) a reply none is text = absurd cc
 pub same_turned : (s t : Seen) (es : List Entry) (a : List Cursor) (r q : Recorded) (b : Bool) → s ≡ t → r ≡ q → sitting_of s es a r b ≡ sitting_of t es a q b
 same_turned s t es a r q b e f = rw (e, f) refl
 
-pub tells_stay : (xs : List Step) (d : Sitting Seen) (text : ℕ → List ℕ) (t : Turned Seen) → ((if_steps xs (says nothing_text d) (turned by_parts d text t)).state).tells ≡ d.tells
-tells_stay [] d text t = refl
-tells_stay (x ∷ xs) d text t = refl
+-- that is how a group that was taken back or done again is answered, and told
+pub turn_answered : {X E : Type 0} (a : Result X E) (text : X → List ℕ) (turn : Turn) (xs : Recorded → List Step) (t : Seen → Recorded → Turned Seen) (k : ℕ) (d y e : Sitting Seen) (s : Seen) (q : Recorded) (r : Result ℕ StepError) → d ≡ y
+    → ((r ≡ Err steps.Nothing) ↔ (xs d.recorded ≡ [])) → (r ≡ Err steps.Nothing → (s ≡ d.state) × (q ≡ d.recorded)) → IfOk r (λ n. t d.state d.recorded ≡ record { steps = n; fault = None; state = s; recorded = q })
+    → ((f : EditError) → r ≡ Err (steps.Edit f) → t d.state d.recorded ≡ record { steps = k; fault = Some f; state = s; recorded = q }) → IfOk a (λ x. IsTurnTold turn r (with_recorded (with_state d s) q) (text x) e)
+    → IfOk a (λ x. IsAnswered (if_steps (xs y.recorded) (says nothing_text y) (turned by_parts y (turn_text turn) (t y.state y.recorded))) (text x) e)
+turn_answered a text turn xs t k d y e s q r view nothing stays exact refused told =
+    subst (λ (z : Sitting Seen). IfOk a (λ x. IsAnswered (if_steps (xs z.recorded) (says nothing_text z) (turned by_parts z (turn_text turn) (t z.state z.recorded))) (text x) e)) view
+    (on_ok a _ _ (λ x. go r (text x) nothing stays exact refused) told)
+  where
+    go : (p : Result ℕ StepError) (reply : List ℕ) → ((p ≡ Err steps.Nothing) ↔ (xs d.recorded ≡ [])) → (p ≡ Err steps.Nothing → (s ≡ d.state) × (q ≡ d.recorded)) → IfOk p (λ n. t d.state d.recorded ≡ record { steps = n; fault = None; state = s; recorded = q })
+        → ((f : EditError) → p ≡ Err (steps.Edit f) → t d.state d.recorded ≡ record { steps = k; fault = Some f; state = s; recorded = q }) → IsTurnTold turn p (with_recorded (with_state d s) q) reply e
+        → IsAnswered (if_steps (xs d.recorded) (says nothing_text d) (turned by_parts d (turn_text turn) (t d.state d.recorded))) reply e
+    go (Ok n) reply none stays exact refused told = turned_said d e _ (turn_text turn) _ n None s q reply (λ h. ok_is_not_err n steps.Nothing (none.1 h)) exact told.1 told.0
+    go (Err steps.Nothing) reply none stays exact refused told =
+        let same = stays refl in
+        none_turned d e _ _ reply (none.0 refl) (told.1 ∙ same_turned s d.state d.entries d.cursors q d.recorded d.tells same.0 same.1) told.0
+    go (Err (steps.Edit f)) reply none stays exact refused told = turned_said d e _ (turn_text turn) _ k (Some f) s q reply (λ h. errors_apart _ f refl (none.1 h)) (refused f refl) told.1 (fault_told f reply told.0)
+    go (Err other) reply none stays exact refused told = absurd told
+
+tells_on : (xs : List Step) (d : Sitting Seen) (text : ℕ → List ℕ) (t : Turned Seen) → ((if_steps xs (says nothing_text d) (turned by_parts d text t)).state).tells ≡ d.tells
+tells_on [] d text t = refl
+tells_on (x ∷ xs) d text t = refl
+
+pub tells_stay : (turn : Turn) (d : Sitting Seen) → ((turned_group by_parts turn d).state).tells ≡ d.tells
+tells_stay turns.Back d = tells_on (d.recorded).past d back_text (by_parts.backed d.state d.recorded)
+tells_stay turns.Again d = tells_on (d.recorded).future d again_text (by_parts.redone d.state d.recorded)
 
 -- what is told of it, and of what is released after it
 pub turned_told : (d m e : Sitting Seen) (cs xs ys zs : List Change) (a : Answered (Sitting Seen)) (reply all : List ℕ) → IsAnswered a reply m → (a.state).tells ≡ d.tells → xs ≡ [] → ys ≡ xs ++ cs → (IsTrue m.tells → zs ≡ ys ++ all_released_changes m.state)

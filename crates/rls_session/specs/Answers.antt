@@ -23,6 +23,8 @@ use Rattle.rls_steps.specs.Grounds.{Turned, closed}
 use Rattle.rls_steps.specs.Groups.{group_count}
 use Rattle.rls_anchor.specs.declared.anchor.Anchor.{Anchor}
 use Rattle.rls_session.specs.declared.desk.TheConstants.{KEPT_ENTRIES}
+use Rattle.rls_session.specs.declared.desk.Turn.{Turn}
+use Rattle.rls_session.specs.declared.desk.Turn.TheVariants as turns
 use Rattle.rls_session.specs.declared.cursors.Cursor.{Cursor}
 use Rattle.rls_session.specs.Cursors.{cursor_in, cursors_moved, cursors_with, moved}
 use Rattle.rls_session.specs.declared.orders.Side.{Side}
@@ -181,6 +183,19 @@ backed K d = if_steps (d.recorded).past (says nothing_text d) (turned K d back_t
 abbrev pub redone : {X : Type 0} → Kind X → Sitting X → Answered (Sitting X)
 redone K d = if_steps (d.recorded).future (says nothing_text d) (turned K d again_text (K.redone d.state d.recorded))
 
+-- one or the other, how many steps are told, and by which edits
+abbrev pub turned_group : {X : Type 0} → Kind X → Turn → Sitting X → Answered (Sitting X)
+turned_group K turns.Back d = backed K d
+turned_group K turns.Again d = redone K d
+
+abbrev pub turn_text : Turn → ℕ → List ℕ
+turn_text turns.Back = back_text
+turn_text turns.Again = again_text
+
+abbrev pub turn_edits : {X : Type 0} → Kind X → Turn → Sitting X → List Edit
+turn_edits K turns.Back d = K.back_edits d.state d.recorded
+turn_edits K turns.Again d = K.again_edits d.state d.recorded
+
 -- the open group is ended
 abbrev pub ended : {X : Type 0} → Sitting X → Answered (Sitting X)
 ended d = let r = closed d.recorded in says (groups_text (group_count r.past) (group_count r.future)) (with_recorded d r)
@@ -277,11 +292,8 @@ edit_told K d r = told_rested K d (made_changes r) (edited K d r)
 abbrev pub undo_told : {X : Type 0} → Kind X → Sitting X → Answered (Sitting X)
 undo_told K d = told_rested K d (undone_changes K d.state (last_of d.entries)) (undone_last K d)
 
-abbrev pub back_told : {X : Type 0} → Kind X → Sitting X → Answered (Sitting X)
-back_told K d = told_rested K d (edit_changes (K.back_edits d.state d.recorded)) (backed K d)
-
-abbrev pub again_told : {X : Type 0} → Kind X → Sitting X → Answered (Sitting X)
-again_told K d = told_rested K d (edit_changes (K.again_edits d.state d.recorded)) (redone K d)
+abbrev pub turn_told : {X : Type 0} → Kind X → Turn → Sitting X → Answered (Sitting X)
+turn_told K turn d = told_rested K d (edit_changes (turn_edits K turn d)) (turned_group K turn d)
 
 abbrev pub take_told : {X : Type 0} → Kind X → Sitting X → Result Message ℕ → Answered (Sitting X)
 take_told K d r = told d (message_changes K d.state r) (taken K d r)
@@ -290,8 +302,8 @@ take_told K d r = told d (message_changes K d.state r) (taken K d r)
 abbrev pub done : {X : Type 0} → Kind X → Sitting X → Order → Answered (Sitting X)
 done K d (orders.Edit line) = edit_told K d (read_line K d.state line)
 done K d orders.Undo = undo_told K (with_caught_up K d)
-done K d orders.Back = back_told K (with_begun K d)
-done K d orders.Again = again_told K (with_begun K d)
+done K d orders.Back = turn_told K turns.Back (with_begun K d)
+done K d orders.Again = turn_told K turns.Again (with_begun K d)
 done K d orders.Close = ended d
 done K d (orders.Point side at n) = pointed K d side at n
 done K d (orders.Place n) = placed K d n

@@ -1,5 +1,5 @@
 -- What the code keeps of a session.
-use Rattle.std.specs.Prelude.{◌≡◌, ℕ, Bool, List, [], ◌∷◌, IsTrue, Option}
+use Rattle.std.specs.Prelude.{◌≡◌, ℕ, Bool, List, [], ◌∷◌, IsTrue, Option, Result, Ok, Err}
 use Rattle.rls_ident.specs.declared.epoch_name.EpochName.{EpochName}
 use Rattle.rls_model.specs.declared.edit.EditError.{EditError}
 use Rattle.rls_model.specs.declared.edit.EditError.TheVariants as edits
@@ -15,8 +15,12 @@ use Rattle.rls_steps.specs.Recorded.{Recorded}
 use Rattle.rls_session.specs.declared.cursors.Cursor.{Cursor}
 use Rattle.rls_session.specs.Cursors.{AreAnchored}
 use Rattle.rls_stages.specs.Lines.{line_fault}
-use Rattle.rls_session.specs.Answers.{Sitting}
-use Rattle.rls_session.specs.Replies.{refused_text}
+use Rattle.rls_steps.specs.declared.steps.StepError.{StepError}
+use Rattle.rls_steps.specs.declared.steps.StepError.TheVariants as steps
+use Rattle.rls_session.specs.declared.desk.Turn.{Turn}
+use Rattle.rls_session.specs.Answers.{Sitting, turn_text, with_recorded}
+use Rattle.rls_session.specs.Replies.{nothing_text, refused_text}
+use Rattle.rls_session.specs.Sessions.{by_parts}
 
 abbrev pub sitting_of : Seen → List Entry → List Cursor → Recorded → Bool → Sitting Seen
 sitting_of s es cs r tells = record { state = s; entries = es; cursors = cs; recorded = r; tells = tells }
@@ -40,6 +44,13 @@ AreKept s e (n ∷ ns) = IsTrue (keeps s e)
 abbrev pub TellsFault : EditError → List ℕ → Type 0
 TellsFault edits.OutOfMemory reply = ⊥
 TellsFault e reply = reply ≡ refused_text (line_fault e)
+
+-- a group was taken back or done again in this sitting, to its end or not, and the reply tells it
+abbrev pub IsTurnTold : Turn → Result ℕ StepError → Sitting Seen → List ℕ → Sitting Seen → Type 0
+IsTurnTold turn (Ok n) d reply e = (reply ≡ turn_text turn n) × (e ≡ with_recorded d (by_parts.kept d.state d.recorded))
+IsTurnTold turn (Err steps.Nothing) d reply e = (reply ≡ nothing_text) × (e ≡ d)
+IsTurnTold turn (Err (steps.Edit f)) d reply e = TellsFault f reply × (e ≡ with_recorded d (by_parts.kept d.state d.recorded))
+IsTurnTold turn (Err f) d reply e = ⊥
 
 -- what is changed by undoing the entry, if there is one, up to the first edit that is refused
 abbrev pub planned_changes : Seen → Option Entry → List Change

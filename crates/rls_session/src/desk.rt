@@ -13,10 +13,10 @@ ghost use Rattle.rls_stages.specs.Lines.{allowed};
 ghost use Rattle.rls_undo.specs.Undoing.{last_of};
 ghost use Rattle.rls_changes.specs.Edits.{edit_changes};
 ghost use Rattle.rls_changes.specs.Telling.{all_released_changes};
-ghost use Rattle.rls_steps.specs.Grounds.{over, again_edits, back_edits};
 ghost use Rattle.rls_session.specs.Answering.{IsAnswered};
-ghost use Rattle.rls_session.specs.Answers.{again_told, back_told, backed, done, edit_told, edited, ended, made_changes, made_sitting, message_changes, placed, pointed, read_line, redone, says, sitting_at, take_told, taken, undo_told, undone_changes, undone_last, with_begun, with_caught_up, with_changes, with_recorded, with_settled, with_state, with_telling};
+ghost use Rattle.rls_session.specs.Answers.{done, edit_told, edited, ended, made_changes, made_sitting, message_changes, placed, pointed, read_line, says, sitting_at, take_told, taken, turn_edits, turn_told, turned_group, undo_told, undone_changes, undone_last, with_begun, with_caught_up, with_changes, with_recorded, with_settled, with_state, with_telling};
 ghost use Rattle.rls_session.specs.Cursors.{cursor_in};
+ghost use Rattle.rls_session.specs.Desks.{IsTurnTold};
 ghost use Rattle.rls_session.specs.Replies.{telling_text};
 ghost use Rattle.rls_session.specs.Requests.{Does};
 ghost use Rattle.rls_session.specs.Sent.{SendsMessage};
@@ -54,6 +54,13 @@ pub const KEPT_STEPS: usize = 10_000;
 
 /// How many characters these steps put in or cut out, at most.
 pub const KEPT_CHARACTERS: u64 = 4_194_304;
+
+/// Which group of steps goes: the last one back, or the one that was taken back last again.
+#[derive(Clone, Copy)]
+pub enum Turn {
+    Back,
+    Again,
+}
 
 /// What a session works on: the replica, what undoes its edits, the cursors, what is recorded of its steps, and whether changes are told.
 #[derive(Drop)]
@@ -106,8 +113,8 @@ impl Desk {
         match order {
             Order::Edit { line } => self.edit(alloc, line),
             Order::Undo => self.undo(alloc),
-            Order::Back => self.back(alloc),
-            Order::Again => self.again(alloc),
+            Order::Back => self.turn(alloc, Turn::Back),
+            Order::Again => self.turn(alloc, Turn::Again),
             Order::Close => self.end_group(alloc),
             Order::Point { side, at, number } => self.point(alloc, side, at, number),
             Order::Place { number } => self.place(alloc, number),
@@ -217,57 +224,55 @@ impl Desk {
 
     // ---- steps
 
-    // Takes the last group back, and releases what is ready.
-    fn back(&mut self, alloc: Global) -> Result<Vec<u8>, AllocError>
-        ensures answered { IfOk result (λ reply. IsAnswered (back_told by_parts (with_begun by_parts self.old)) reply.items self.new) }
+    // Takes the last group back, or does the one again that was taken back last, and releases what is ready.
+    fn turn(&mut self, alloc: Global, turn: Turn) -> Result<Vec<u8>, AllocError>
+        ensures answered { IfOk result (λ reply. IsAnswered (turn_told by_parts turn (with_begun by_parts self.old)) reply.items self.new) }
     {
         self.begin();
         let mut changes = Vec::new(alloc);
-        let reply = self.take_back(alloc, &mut changes)?;
+        let reply = self.turn_group(alloc, turn, &mut changes)?;
         self.release(alloc, &mut changes)?;
         self.tell(alloc, reply, &changes)
     }
 
-    // Takes the last group back.
-    fn take_back(&mut self, alloc: Global, changes: &mut Vec<Change>) -> Result<Vec<u8>, AllocError>
-        ensures answered { IfOk result (λ reply. IsAnswered (backed by_parts self.old) reply.items self.new) }
-        ensures changes { OnOk result (changes.new.items ≡ changes.old.items ++ edit_changes (back_edits over self.old.state self.old.recorded)) }
+    // Takes the last group back, or does the one again that was taken back last.
+    fn turn_group(
+        &mut self,
+        alloc: Global,
+        turn: Turn,
+        changes: &mut Vec<Change>,
+    ) -> Result<Vec<u8>, AllocError>
+        ensures answered { IfOk result (λ reply. IsAnswered (turned_group by_parts turn self.old) reply.items self.new) }
+        ensures changes { OnOk result (changes.new.items ≡ changes.old.items ++ edit_changes (turn_edits by_parts turn self.old)) }
     {
-        match self.steps.undo(&mut self.replica, changes) {
-            Ok(steps) => {
-                self.keep_within()?;
-                replies::back(alloc, steps)
+        match turn {
+            Turn::Back => {
+                let done = self.steps.undo(&mut self.replica, changes);
+                self.tell_turn(alloc, Turn::Back, done)
             }
-            Err(StepError::Nothing) => replies::nothing(alloc),
-            Err(StepError::Edit(error)) => {
-                self.keep_within()?;
-                refused(alloc, error)
+            Turn::Again => {
+                let done = self.steps.redo(&mut self.replica, changes);
+                self.tell_turn(alloc, Turn::Again, done)
             }
-            // A session drops nothing that it goes back to.
-            Err(StepError::Dropped { .. } | StepError::OutOfMemory) => Err(AllocError),
         }
     }
 
-    // Does the group again that was taken back last, and releases what is ready.
-    fn again(&mut self, alloc: Global) -> Result<Vec<u8>, AllocError>
-        ensures answered { IfOk result (λ reply. IsAnswered (again_told by_parts (with_begun by_parts self.old)) reply.items self.new) }
+    // Keeps what is recorded within bounds after a group was taken back or done again, and tells how many steps that were.
+    fn tell_turn(
+        &mut self,
+        alloc: Global,
+        turn: Turn,
+        done: Result<usize, StepError>,
+    ) -> Result<Vec<u8>, AllocError>
+        ensures told { IfOk result (λ reply. IsTurnTold turn done self.old reply.items self.new) }
     {
-        self.begin();
-        let mut changes = Vec::new(alloc);
-        let reply = self.do_again(alloc, &mut changes)?;
-        self.release(alloc, &mut changes)?;
-        self.tell(alloc, reply, &changes)
-    }
-
-    // Does the group again that was taken back last.
-    fn do_again(&mut self, alloc: Global, changes: &mut Vec<Change>) -> Result<Vec<u8>, AllocError>
-        ensures answered { IfOk result (λ reply. IsAnswered (redone by_parts self.old) reply.items self.new) }
-        ensures changes { OnOk result (changes.new.items ≡ changes.old.items ++ edit_changes (again_edits over self.old.state self.old.recorded)) }
-    {
-        match self.steps.redo(&mut self.replica, changes) {
+        match done {
             Ok(steps) => {
                 self.keep_within()?;
-                replies::again(alloc, steps)
+                match turn {
+                    Turn::Back => replies::back(alloc, steps),
+                    Turn::Again => replies::again(alloc, steps),
+                }
             }
             Err(StepError::Nothing) => replies::nothing(alloc),
             Err(StepError::Edit(error)) => {
