@@ -48,16 +48,13 @@ use Rattle.rls_stages.specs.Lines.{fault_in, text_in}
 use Rattle.rls_stages.proofs.Meant.{IsLine, IsMeantWell, line_well}
 use Rattle.rls_top.specs.Groups.{Group}
 use Rattle.rls_top.proofs.Groups.{Matches, of_file, shown}
-use Rattle.rls_anchor.specs.declared.anchor.Anchor.{Anchor}
-use Rattle.rls_session.specs.declared.orders.Side.{Side}
 use Rattle.rls_session.specs.declared.orders.Order.TheVariants as orders
-use Rattle.rls_session.specs.Answers.{Sitting, answer, edited, if_steps, made_changes, message_changes, read_line, rested, sent, taken, taken_at, text_reply, told, told_rested, undone, undone_by_plan, undone_changes, with_begun, with_caught_up, with_changes, with_state}
+use Rattle.rls_session.specs.Answers.{Sitting, answer, edited, if_steps, made_changes, message_changes, read_line, rested, sent, taken, taken_at, text_reply, told, told_rested, undone, undone_by_plan, with_begun, with_caught_up, with_changes, with_state}
 use Rattle.rls_changes.specs.declared.change.Change.{Change}
-use Rattle.rls_changes.specs.Edits.{edit_changes}
 use Rattle.rls_changes.specs.Telling.{all_released_changes, all_released_changes_in, ready_changes, times_changes}
 use Rattle.rls_changes.proofs.TakenAlike.{released_alike}
 use Rattle.rls_steps.specs.declared.piece.Step.{Step}
-use Rattle.rls_steps.specs.Grounds.{Turned, over, within, again_edits, again_on, back_edits, back_on}
+use Rattle.rls_steps.specs.Grounds.{Turned, within, again_on, back_on}
 use Rattle.rls_steps.proofs.Performing.{turned_performed_in}
 use Rattle.rls_session.specs.Answers as answers
 use Rattle.rls_session.specs.Courses.{Answered}
@@ -65,10 +62,10 @@ use Rattle.rls_session.specs.Replies.{again_text, back_text, bytes_text, nothing
 use Rattle.rls_session.specs.Requests.{Request, Does, Takes}
 use Rattle.rls_session.specs.Sessions.{by_history, by_parts}
 use Rattle.rls_session.proofs.Given.{IsGiven}
-use Rattle.rls_session.proofs.AlikeSittings.{AreAlike, IsAlike}
+use Rattle.rls_session.proofs.AlikeSittings.{AreAlike, AreAlmost, IsAlike}
 use Rattle.rls_session.proofs.AlikeSteps.{backed_almost, begun_stays, redone_almost, turned_whole}
 use Rattle.rls_session.proofs.Agreeing.{answer_alike, caught_up_stays, line_almost, taken_alike, undo_almost}
-use Rattle.rls_session.proofs.Steps.{steps_begun}
+use Rattle.rls_session.proofs.Steps.{AreBegun, steps_begun}
 use Rattle.rls_session.proofs.Entries.{whole_at}
 use Rattle.rls_session.proofs.Whole.{last_undoable}
 use Rattle.rls_groups.specs.Events.{IsWritten, replied}
@@ -150,8 +147,8 @@ module _ (g n : ℕ) (G : Group) (w : World) (x : Matches g n G w) (i : ℕ) (s 
     }
 
     -- nothing changes
-    quiet : (r : Request) → AreAlike (answer by_parts d r) (answer by_history f r) → next_of r ≡ f.state → IsClean G d r → IsAnswered f r → replied d r ≡ [] → Stepped d f out r
-    quiet r k e clean meant none = moved r k (subst (λ (t : State). IsUnderway g n w i t out) (sym e) b.underway) (subst (Follows f.state) (sym e) (follows_self f.state)) clean meant none
+    quiet : (r : Request) → IsGiven r → next_of r ≡ f.state → IsClean G d r → IsAnswered f r → replied d r ≡ [] → Stepped d f out r
+    quiet r given e clean meant none = moved r (answer_alike d f r given b.alike) (subst (λ (t : State). IsUnderway g n w i t out) (sym e) b.underway) (subst (Follows f.state) (sym e) (follows_self f.state)) clean meant none
 
     -- where waiting operations are released then, of which none is ready
     record Rested (t u : State) : Type 0 where
@@ -161,6 +158,13 @@ module _ (g n : ℕ) (G : Group) (w : World) (x : Matches g n G w) (i : ℕ) (s 
 
     rested_moves : (r : Request) (t : State) → Rested t (next_of r) → AreAlike (answer by_parts d r) (answer by_history f r) → IsClean G d r → IsAnswered f r → replied d r ≡ [] → Stepped d f out r
     rested_moves r t q k clean meant none = moved r k (subst (λ (u : State). IsUnderway g n w i u out) (sym q.same) q.underway) (subst (Follows f.state) (sym q.same) q.follows) clean meant none
+
+    -- what it changes is told, as far as the history goes on
+    made_step : (r : Request) (e : Sitting Seen) (cs : List Change) (a : Answered (Sitting Seen)) (y : Answered (Sitting State)) → AreAlmost a y → IsUnderway g n w i (y.state).state out × Follows f.state (y.state).state
+        → (IsAtRest (y.state).state → next_of r ≡ (y.state).state) → IsGiven r → (told_rested by_parts e cs a ≡ told e cs a → IsClean G d r) → IsAnswered f r → replied d r ≡ [] → Stepped d f out r
+    made_step r e cs a y almost q same given clean meant none =
+        let rest = ((q.0).storable).rest in
+        rested_moves r (y.state).state (record { underway = q.0; follows = q.1; same = same rest }) (answer_alike d f r given b.alike) (clean (told_same e cs a (y.state).state (almost.states).stands rest)) meant none
 
     -- ---- edits
 
@@ -222,10 +226,7 @@ module _ (g n : ℕ) (G : Group) (w : World) (x : Matches g n G w) (i : ℕ) (s 
         let e = with_caught_up by_parts d in
         let u = with_caught_up by_history f in
         let alike = caught_up_stays d f b.alike in
-        let q = undo_goes e u alike refl (last_of u.entries) refl in
-        let t = ((undone by_history u (last_of u.entries)).state).state in
-        rested_moves r t (record { underway = q.0; follows = q.1; same = rests t ((q.0).storable).rest }) (answer_alike d f r tt b.alike)
-        (told_same e (undone_changes by_parts e.state (last_of e.entries)) (undone by_parts e (last_of e.entries)) t ((undo_almost e u alike).states).stands ((q.0).storable).rest) tt refl
+        made_step r e _ _ _ (undo_almost e u alike) (undo_goes e u alike refl (last_of u.entries) refl) (λ k. rests _ k) tt (λ k. k) tt refl
 
     -- ---- steps
 
@@ -235,85 +236,35 @@ module _ (g n : ℕ) (G : Group) (w : World) (x : Matches g n G w) (i : ℕ) (s 
     turned_goes [] text u a es same are is = (subst (λ (t : State). IsUnderway g n w i t out) (sym same) b.underway, subst (Follows f.state) (sym same) (follows_self f.state))
     turned_goes (x ∷ xs) text u a es same are is = subst (λ (t : State). IsUnderway g n w i t out × Follows f.state t) (sym is) (performs g n w i s h es f.state out are b.underway)
 
+    abbrev parts_begun : Sitting Seen
+    parts_begun = with_begun by_parts d
+
+    abbrev history_begun : Sitting State
+    history_begun = with_begun by_history f
+
+    stays : IsAlike parts_begun history_begun
+    stays = begun_stays d f b.alike
+
+    begun : AreBegun d.state (parts_begun.recorded) (history_begun.recorded)
+    begun = steps_begun d.state f.state d.recorded f.recorded (b.alike).stands (b.alike).steps
+
     back_step : Stepped d f out (Does orders.Back)
     unfolding answer
     back_step =
-        let r = Does orders.Back in
-        let e = with_begun by_parts d in
-        let u = with_begun by_history f in
-        let alike = begun_stays d f b.alike in
-        let begun = steps_begun d.state f.state d.recorded f.recorded (b.alike).stands (b.alike).steps in
-        let q = turned_goes (u.recorded).past back_text u (back_on within f.state u.recorded) (back_edits within f.state u.recorded) refl (turned_whole e u begun alike).0 ((turned_performed_in f.state u.recorded).0).state in
-        let t = ((answers.backed by_history u).state).state in
-        rested_moves r t (record { underway = q.0; follows = q.1; same = rests t ((q.0).storable).rest }) (answer_alike d f r tt b.alike)
-        (told_same e (edit_changes (back_edits over e.state e.recorded)) (answers.backed by_parts e) t ((backed_almost e u begun alike).states).stands ((q.0).storable).rest) tt refl
+        let q = turned_goes (history_begun.recorded).past back_text history_begun (back_on within f.state (history_begun.recorded)) _ refl (turned_whole parts_begun history_begun begun stays).0 ((turned_performed_in f.state (history_begun.recorded)).0).state in
+        made_step (Does orders.Back) parts_begun _ _ _ (backed_almost parts_begun history_begun begun stays) q (λ r. rests _ r) tt (λ e. e) tt refl
 
     again_step : Stepped d f out (Does orders.Again)
     unfolding answer
     again_step =
-        let r = Does orders.Again in
-        let e = with_begun by_parts d in
-        let u = with_begun by_history f in
-        let alike = begun_stays d f b.alike in
-        let begun = steps_begun d.state f.state d.recorded f.recorded (b.alike).stands (b.alike).steps in
-        let q = turned_goes (u.recorded).future again_text u (again_on within f.state u.recorded) (again_edits within f.state u.recorded) refl (turned_whole e u begun alike).1 ((turned_performed_in f.state u.recorded).1).state in
-        let t = ((answers.redone by_history u).state).state in
-        rested_moves r t (record { underway = q.0; follows = q.1; same = rests t ((q.0).storable).rest }) (answer_alike d f r tt b.alike)
-        (told_same e (edit_changes (again_edits over e.state e.recorded)) (answers.redone by_parts e) t ((redone_almost e u begun alike).states).stands ((q.0).storable).rest) tt refl
-
-    close_step : Stepped d f out (Does orders.Close)
-    unfolding answer
-    close_step = quiet (Does orders.Close) (answer_alike d f (Does orders.Close) tt b.alike) refl tt tt refl
+        let q = turned_goes (history_begun.recorded).future again_text history_begun (again_on within f.state (history_begun.recorded)) _ refl (turned_whole parts_begun history_begun begun stays).1 ((turned_performed_in f.state (history_begun.recorded)).1).state in
+        made_step (Does orders.Again) parts_begun _ _ _ (redone_almost parts_begun history_begun begun stays) q (λ r. rests _ r) tt (λ e. e) tt refl
 
     -- ---- the cursor and the text
 
     either : (c : Bool) (a e : Answered (Sitting State)) → (a.state).state ≡ f.state → (e.state).state ≡ f.state → ((cond c a e).state).state ≡ f.state
     either true a e p q = p
     either false a e p q = q
-
-    point_step : (side : Side) (p k : ℕ) → Stepped d f out (Does (orders.Point side p k))
-    unfolding answer
-    point_step side p k = quiet (Does (orders.Point side p k)) (answer_alike d f (Does (orders.Point side p k)) tt b.alike) (either (ltb (length (text_in f.state)) p) _ _ refl refl) tt tt refl
-
-    place_step : (k : ℕ) → Stepped d f out (Does (orders.Place k))
-    unfolding answer
-    place_step k = quiet (Does (orders.Place k)) (answer_alike d f (Does (orders.Place k)) tt b.alike) refl tt tt refl
-
-    spell_step : (p : ℕ) → Stepped d f out (Does (orders.Spell p))
-    unfolding answer
-    spell_step p = quiet (Does (orders.Spell p)) (answer_alike d f (Does (orders.Spell p)) tt b.alike) refl tt tt refl
-
-    locate_step : (place : Anchor) → Stepped d f out (Does (orders.Locate place))
-    unfolding answer
-    locate_step place = quiet (Does (orders.Locate place)) (answer_alike d f (Does (orders.Locate place)) tt b.alike) refl tt tt refl
-
-    order_step : (len : ℕ) → Stepped d f out (Does (orders.Take len))
-    unfolding answer
-    order_step len = quiet (Does (orders.Take len)) (answer_alike d f (Does (orders.Take len)) tt b.alike) refl tt tt refl
-
-    stat_step : Stepped d f out (Does orders.Stat)
-    unfolding answer
-    stat_step = quiet (Does orders.Stat) (answer_alike d f (Does orders.Stat) tt b.alike) refl tt tt refl
-
-    version_step : Stepped d f out (Does orders.Version)
-    unfolding answer
-    version_step = quiet (Does orders.Version) (answer_alike d f (Does orders.Version) tt b.alike) refl tt tt refl
-
-    store_step : Stepped d f out (Does orders.Store)
-    unfolding answer
-    store_step = quiet (Does orders.Store) (answer_alike d f (Does orders.Store) tt b.alike) refl tt tt refl
-
-    tell_step : (on : Bool) → Stepped d f out (Does (orders.Tell on))
-    unfolding answer
-    tell_step on = quiet (Does (orders.Tell on)) (answer_alike d f (Does (orders.Tell on)) tt b.alike) refl tt tt refl
-
-    quit_step : Stepped d f out (Does orders.Quit)
-    unfolding answer
-    quit_step = quiet (Does orders.Quit) (answer_alike d f (Does orders.Quit) tt b.alike) refl tt tt refl
-
-    bad_step : Stepped d f out (Does orders.Bad)
-    unfolding answer
-    bad_step = quiet (Does orders.Bad) (answer_alike d f (Does orders.Bad) tt b.alike) refl tt tt refl
 
     text_clean : IsTextOfAll G (vector d.state) (text_reply by_parts d.state)
     text_clean j t words input file counted is =
@@ -326,10 +277,6 @@ module _ (g n : ℕ) (G : Group) (w : World) (x : Matches g n G w) (i : ℕ) (s 
           shown g n G w x j words input r (inl is),
           ap (λ (cs : List ℕ). bytes_text (codes "text") (encode_utf8_all cs)) (text_alike d.state f.state stands ∙ sym same.1),
         )
-
-    text_step : Stepped d f out (Does orders.Text)
-    unfolding answer
-    text_step = quiet (Does orders.Text) (answer_alike d f (Does orders.Text) tt b.alike) refl text_clean tt refl
 
     -- ---- messages
 
@@ -373,7 +320,7 @@ module _ (g n : ℕ) (G : Group) (w : World) (x : Matches g n G w) (i : ℕ) (s 
         reply e message (inr q) = absurd q
 
         go : (known : Bool) → nat_lt to (members d.state) ≡ known → Stepped d f out r
-        go false e = quiet r (answer_alike d f r tt b.alike) (send_same to) (λ message p. absurd (among false e message p)) tt (rw e refl)
+        go false e = quiet r tt (send_same to) (λ message p. absurd (among false e message p)) tt (rw e refl)
         go true e =
             let k = answer_alike d f r tt b.alike in
             let l = lt_is to (members d.state) e in
@@ -416,22 +363,13 @@ module _ (g n : ℕ) (G : Group) (w : World) (x : Matches g n G w) (i : ℕ) (s 
     -- ---- all requests
 
     pub steps : (r : Request) → IsGiven r → IsWritten G d r → Stepped d f out r
+    unfolding answer
     steps (Does (orders.Edit line)) ok given = edit_step line ok
     steps (Does orders.Undo) ok given = undo_step
     steps (Does orders.Back) ok given = back_step
     steps (Does orders.Again) ok given = again_step
-    steps (Does orders.Close) ok given = close_step
-    steps (Does (orders.Point side p k)) ok given = point_step side p k
-    steps (Does (orders.Place k)) ok given = place_step k
-    steps (Does (orders.Spell p)) ok given = spell_step p
-    steps (Does (orders.Locate place)) ok given = locate_step place
-    steps (Does orders.Text) ok given = text_step
-    steps (Does (orders.Take len)) ok given = order_step len
+    steps (Does (orders.Point side p k)) ok given = quiet (Does (orders.Point side p k)) ok (either (ltb (length (text_in f.state)) p) _ _ refl refl) tt tt refl
+    steps (Does orders.Text) ok given = quiet (Does orders.Text) ok refl text_clean tt refl
     steps (Does (orders.Send to)) ok given = send_step to
-    steps (Does orders.Stat) ok given = stat_step
-    steps (Does orders.Version) ok given = version_step
-    steps (Does orders.Store) ok given = store_step
-    steps (Does (orders.Tell on)) ok given = tell_step on
-    steps (Does orders.Quit) ok given = quit_step
-    steps (Does orders.Bad) ok given = bad_step
+    steps (Does order) ok given = quiet (Does order) ok refl tt tt refl
     steps (Takes bytes) ok given = take_step bytes ok given

@@ -20,8 +20,8 @@ use Rattle.rls_seen.specs.Seen.{Seen}
 use Rattle.rls_report.specs.Reports.{edit_text}
 use Rattle.rls_stages.specs.Lines.{allowed_by, fault_in, line_by, text_in}
 use Rattle.rls_top.specs.declared.words.Command.{Command}
-use Rattle.rls_top.specs.declared.words.Command.TheVariants.{New, OnFile, Trial}
-use Rattle.rls_top.specs.declared.words.FileCommand.TheVariants.{Edit, Text, Ids, Stat, Send, Take, Leave}
+use Rattle.rls_top.specs.declared.words.Command.TheVariants.{OnFile}
+use Rattle.rls_top.specs.declared.words.FileCommand.TheVariants.{Edit, Take, Leave}
 use Rattle.rls_top.specs.Due.{Due, Makes, NoCommand, Stops}
 use Rattle.rls_top.specs.Groups.{stored_in}
 use Rattle.rls_top.proofs.GroupCommands.{Comes, MakesOf, same_ok}
@@ -41,13 +41,7 @@ makes_after : (c : Option Command) (input : List ℕ) (t : State) (report : List
 makes_after (Some (OnFile Edit)) input t report u k = ap (after_script t) k.2 ∙ (ap (run_to t) k.4 ∙ k.5)
 makes_after (Some (OnFile Leave)) input t report u k = ap (run_to t) k.2 ∙ k.3
 makes_after (Some (OnFile Take)) input t report u k = ap (after_message t) (message_again input k.0 k.1) ∙ k.2
-makes_after (Some (OnFile Text)) input t report u k = absurd k
-makes_after (Some (OnFile Ids)) input t report u k = absurd k
-makes_after (Some (OnFile Stat)) input t report u k = absurd k
-makes_after (Some (OnFile (Send to))) input t report u k = absurd k
-makes_after (Some (New group me members)) input t report u k = absurd k
-makes_after (Some (Trial seed steps)) input t report u k = absurd k
-makes_after None input t report u k = absurd k
+makes_after other input t report u k = absurd k
 
 -- the states after it
 pub comes_states : (c : Option Command) (input : List ℕ) (ss : List State) (i : ℕ) (t u : State) (d : Due) → slice_get ss i ≡ Some t → Comes c input t d u → slice_set ss i u ≡ states_with ss i (stored_in d) (after_words c input)
@@ -77,13 +71,7 @@ module _ (w : World) (i : ℕ) (t : State) (good : IsGood w) (h : IsAt w i t) (r
       let y = given refl in
       let one : y.0 ≡ k.0 = same_ok (message_of input) y.0 k.0 (message_again input y.0 y.2) (message_again input k.0 k.1) in
       subst (IsTaken t input) (ap (λ (m : Message). (take_message t m).state) one ∙ k.2) (message_taken input y.0 y.1 y.2)
-  commanded (Some (OnFile Text)) input report u given k = absurd k
-  commanded (Some (OnFile Ids)) input report u given k = absurd k
-  commanded (Some (OnFile Stat)) input report u given k = absurd k
-  commanded (Some (OnFile (Send to))) input report u given k = absurd k
-  commanded (Some (New group me members)) input report u given k = absurd k
-  commanded (Some (Trial seed steps)) input report u given k = absurd k
-  commanded None input report u given k = absurd k
+  commanded other input report u given k = absurd k
 
   -- what was there stays there
   makes_follow : (c : Option Command) (input : List ℕ) (report : List ℕ) (u : State) → (c ≡ Some (OnFile Take) → (m : Message) × IsIn m w.sent × IsMessage input m) → MakesOf c input t report u → Follows t u
@@ -93,13 +81,7 @@ module _ (w : World) (i : ℕ) (t : State) (good : IsGood w) (h : IsAt w i t) (r
       let y = given refl in
       let one : y.0 ≡ k.0 = same_ok (message_of input) y.0 k.0 (message_again input y.0 y.2) (message_again input k.0 k.1) in
       subst (Follows t) (ap (λ (m : Message). (take_message t m).state) one ∙ k.2) (taking_goes_on None t y.0, λ o p. message_stays w i t y.0 o good h y.1 p)
-  makes_follow (Some (OnFile Text)) input report u given k = absurd k
-  makes_follow (Some (OnFile Ids)) input report u given k = absurd k
-  makes_follow (Some (OnFile Stat)) input report u given k = absurd k
-  makes_follow (Some (OnFile (Send to))) input report u given k = absurd k
-  makes_follow (Some (New group me members)) input report u given k = absurd k
-  makes_follow (Some (Trial seed steps)) input report u given k = absurd k
-  makes_follow None input report u given k = absurd k
+  makes_follow other input report u given k = absurd k
 
   pub command_follows : (c : Option Command) (input : List ℕ) (d : Due) (u : State) → (c ≡ Some (OnFile Take) → (m : Message) × IsIn m w.sent × IsMessage input m) → Comes c input t d u → Follows t u
   command_follows c input NoCommand u given k = subst (Follows t) k (follows_self t)
