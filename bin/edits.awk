@@ -1,39 +1,24 @@
-# Makes the lines of a script of rls that turn the one text into the other, from what `diff` says of their lines: bin/rls-more.bash.
-# Each line of the input is `=`, `-` or `+` and a line of both texts, of the old one or of the new one, in which the byte FE stands for the
-# line feed. It works on bytes (LC_ALL=C), and counts characters: all bytes but the later ones of a character, 80 to BF.
+# Makes the lines of a script of rls that turn one text into another: examples/COMPARE.md. It reads two files, the old text and the new one, in
+# which the byte FE stands for the line feed (bin/rls-more.bash). It works on bytes (LC_ALL=C) from 0 on, and counts characters.
 
 function characters(s) { gsub(/[\200-\277]/, "", s); return length(s) }
+function escaped(s) { gsub(/\\/, "&&", s); gsub(/\r/, "\\r", s); gsub(/\n/, "\\n", s); return s }
+function least(a, b) { return a < b ? a : b }
 
 # Whether this byte isn't the first one of its character.
 function is_inside(s, k,  c) { c = substr(s, k, 1); return c >= "\200" && c < "\300" }
 
-function escaped(s) { gsub(/\\/, "&&", s); gsub(/\r/, "\\r", s); gsub(/\376/, "\\n", s); return s }
-
-function erase(count,  most) {
-  for (most = 4194304; count > 0; count -= most) print "d " at " " (count < most ? count : most)
+function erase(place, count,  most) {
+  for (most = 4194304; count > 0; count -= most) print "d " place " " (count < most ? count : most)
 }
 
-function insert(s,  most) {
+function insert(place, s,  most) {
   while (s != "") {
     for (most = 1048576; is_inside(s, most + 1); most--);
-    print "i " at " " escaped(substr(s, 1, most))
-    at += characters(substr(s, 1, most))
+    print "i " place " " escaped(substr(s, 1, most))
+    place += characters(substr(s, 1, most))
     s = substr(s, most + 1)
   }
-}
-
-# What is equal at the front and at the end stays.
-function change(gone, come,  least, front, tail) {
-  least = length(gone) < length(come) ? length(gone) : length(come)
-  front = tail = 0
-  while (front < least && substr(gone, front + 1, 1) == substr(come, front + 1, 1)) front++
-  while (front > 0 && (is_inside(gone, front + 1) || is_inside(come, front + 1))) front--
-  while (tail < least - front && substr(gone, length(gone) - tail, 1) == substr(come, length(come) - tail, 1)) tail++
-  while (tail > 0 && is_inside(gone, length(gone) - tail + 1)) tail--
-  at += characters(substr(come, 1, front))
-  erase(characters(substr(gone, front + 1, length(gone) - front - tail)))
-  insert(substr(come, front + 1, length(come) - front - tail))
-  at += characters(substr(come, length(come) - tail + 1))
 }
 
 # Puts lines together, by halves: one after another takes time with the square of their number.
@@ -43,15 +28,311 @@ function joined(lines, from, to,  middle) {
   return joined(lines, from, middle) joined(lines, middle + 1, to)
 }
 
-# Lines that were changed: one by one if there are as many new ones as old ones, and otherwise as a whole.
-function changed(  k) {
-  if (olds != news) change(joined(old, 1, olds), joined(new, 1, news))
-  else for (k = 1; k <= olds; k++) change(old[k], new[k])
-  olds = news = 0
+# The character whose first byte is at a place; `size` is how many bytes it has.
+function character(s, at,  a) {
+  a = ord[substr(s, at + 1, 1)]
+  size = a >= 240 ? 4 : a >= 224 ? 3 : a >= 192 ? 2 : 1
+  if (size == 1) return a
+  if (size == 2) return (a - 192) * 64 + ord[substr(s, at + 2, 1)] - 128
+  if (size == 3) return (a - 224) * 4096 + (ord[substr(s, at + 2, 1)] - 128) * 64 + ord[substr(s, at + 3, 1)] - 128
+  return (a - 240) * 262144 + (ord[substr(s, at + 2, 1)] - 128) * 4096 + (ord[substr(s, at + 3, 1)] - 128) * 64 + ord[substr(s, at + 4, 1)] - 128
 }
 
-BEGIN { at = 0 }
-/^-/ { old[++olds] = substr($0, 2) }
-/^\+/ { new[++news] = substr($0, 2) }
-/^=/ { changed(); at += characters(substr($0, 2)) }
-END { changed() }
+function is_letter(c) {
+  if (c < 128) return (c >= 97 && c <= 122) || (c >= 65 && c <= 90) || (c >= 48 && c <= 57) || c == 95
+  if (c < 768) return c == 170 || c == 181 || c == 186 || (c >= 192 && c != 215 && c != 247)
+  return c <= 3583 || (c >= 4256 && c <= 8191)
+}
+
+# Whether a character belongs to the one before it.
+function is_mark(c) {
+  return c >= 768 && (c <= 879 || (c >= 6832 && c <= 6911) || (c >= 7616 && c <= 7679) || c == 8204 || c == 8205 || (c >= 8400 && c <= 8447) ||
+    (c >= 65024 && c <= 65039) || (c >= 65056 && c <= 65071) || (c >= 127995 && c <= 127999))
+}
+
+# Whether a place is within a character, or between one and what belongs to it.
+function is_joined(s, at) {
+  if (at <= 0 || at >= length(s)) return 0
+  if (is_inside(s, at + 1)) return 1
+  return (at > 2 && substr(s, at - 2, 3) == joiner) || (substr(s, at + 1, 1) >= "\300" && is_mark(character(s, at)))
+}
+
+# The words of a part of a text, and its other characters but spaces, each with the marks after it; and where each begins.
+function tokens_of(s, at, end, tokens, starts,  count, from, c, is_word, next_one) {
+  while (at < end) {
+    if (space[substr(s, at + 1, 1)]) { at++; continue }
+    from = at
+    c = character(s, at)
+    at += size
+    is_word = is_letter(c)
+    while (at < end && !space[substr(s, at + 1, 1)]) {
+      next_one = character(s, at)
+      if (!((c == 8205 && !is_word) || is_mark(next_one) || (is_word && is_letter(next_one)))) break
+      c = next_one
+      at += size
+    }
+    tokens[++count] = substr(s, from + 1, at - from)
+    starts[count] = from
+  }
+  return count + 0
+}
+
+# Where members (or so many in a row) are equal that are once in each; of these the longest part that rises in both, the last first, in ax and ay.
+function anchors(i, m, j, n, many,  k, key, once, other, tops, at, before, x, y, count, low, high, middle, length_of) {
+  for (k = j; k + many <= n; k++) {
+    key = many == 1 ? b[k] : b[k] "," b[k + 1] "," b[k + 2] "," b[k + 3]
+    if (key in other) other[key] = -1; else other[key] = k
+  }
+  for (k = i; k + many <= m; k++) {
+    key = many == 1 ? a[k] : a[k] "," a[k + 1] "," a[k + 2] "," a[k + 3]
+    if (key in once) once[key] = -1; else once[key] = k
+  }
+  for (k = i; k + many <= m; k++) {
+    key = many == 1 ? a[k] : a[k] "," a[k + 1] "," a[k + 2] "," a[k + 3]
+    if (once[key] != k || !(key in other) || other[key] < 0) continue
+    x[++count] = k
+    y[count] = other[key]
+    low = 1
+    high = length_of + 1
+    while (low < high) {
+      middle = int((low + high) / 2)
+      if (tops[middle] < y[count]) low = middle + 1; else high = middle
+    }
+    before[count] = low > 1 ? at[low - 1] : 0
+    tops[low] = y[count]
+    at[low] = count
+    if (low > length_of) length_of = low
+  }
+  count = 0
+  for (k = length_of ? at[length_of] : 0; k > 0; k = before[k]) { ax[++count] = x[k]; ay[count] = y[k] }
+  return count + 0
+}
+
+function comes_at(was, base, k, d) { return (k == -d) || (k != d && (was[base + k - 1] < was[base + k + 1])) }
+
+# The least members that go and come, by Myers' greedy search; if it takes more than so many steps, the way that got furthest. The runs that
+# stay are in rx, ry and rc, the last first; `runs` is how many. The answer is whether it arrived.
+function search(i, m, j, n, steps,  wide, high, off, far, trace, d, k, x, y, is_done, best, was, start, come) {
+  wide = m - i; high = n - j; off = steps + 1
+  for (k = 0; k <= 2 * steps + 2; k++) far[k] = 0
+  for (d = 0; ; d++) {
+    for (k = -d - 1; k <= d + 1; k++) trace[d * 1024 + 512 + k] = far[off + k]
+    for (k = -d; k <= d; k += 2) {
+      x = comes_at(far, off, k, d) ? far[off + k + 1] : far[off + k - 1] + 1
+      y = x - k
+      while (x < wide && y < high && a[i + x] == b[j + y]) { x++; y++ }
+      far[off + k] = x
+      if (x >= wide && y >= high) { is_done = 1; break }
+    }
+    spent += d + 1
+    if (is_done || d == steps) break
+  }
+  best = -1
+  if (!is_done) for (k = -steps; k <= steps; k += 2)
+    if (far[off + k] <= wide && far[off + k] - k <= high && 2 * far[off + k] - k > best) { x = far[off + k]; y = x - k; best = x + y }
+  for (runs = 0; d > 0; d--) {
+    k = x - y
+    come = comes_at(trace, d * 1024 + 512, k, d)
+    was = trace[d * 1024 + 512 + (come ? k + 1 : k - 1)]
+    start = come ? was : was + 1
+    if (x > start) { rx[++runs] = i + start; ry[runs] = j + start - k; rc[runs] = x - start }
+    x = was
+    y = was - (come ? k + 1 : k - 1)
+  }
+  if (x > 0) { rx[++runs] = i; ry[runs] = j; rc[runs] = x }
+  return is_done + 0
+}
+
+function keep(x, y, count,  k) { for (k = 0; k < count; k++) { px[++pairs] = from[x + k]; py[pairs] = to[y + k] } }
+function keep_runs(first,  k) { for (k = runs; k >= first; k--) keep(rx[k], ry[k], rc[k]) }
+function push(i, m, j, n, depth) { top++; ti[top] = i; tm[top] = m; tj[top] = j; tn[top] = n; td[top] = depth }
+
+# Which members of two lists, which count from 1, stay: px and py, of which there are `pairs`. What the other list doesn't have is left out first.
+function align(old, olds, new, news, by_anchors,  numbers, is_old, k, i, m, j, n, depth, done, count, first, p, q, steps) {
+  delete a; delete b
+  for (k = 1; k <= news; k++) numbers[new[k]] = k
+  for (k = 1; k <= olds; k++) is_old[old[k]] = 1
+  for (k = 1; k <= olds; k++) if (old[k] in numbers) { a[p + 0] = numbers[old[k]]; from[p++] = k }
+  for (k = 1; k <= news; k++) if (new[k] in is_old) { b[q + 0] = numbers[new[k]]; to[q++] = k }
+  pairs = top = 0
+  push(0, p + 0, 0, q + 0, 0)
+  while (top > 0) {
+    i = ti[top]; m = tm[top]; j = tj[top]; n = tn[top]; depth = td[top--]
+    if (depth < 0) { keep(i, j, m - i); continue }
+    for (k = i; i < m && j < n && a[i] == b[j]; j++) i++
+    keep(k, j - i + k, i - k)
+    for (k = m; m > i && n > j && a[m - 1] == b[n - 1]; n--) m--
+    if (k > m) push(m, k, n, n + k - m, -1)
+    if (i == m || j == n) continue
+    if (!by_anchors && search(i, m, j, n, 16)) { keep_runs(1); continue }
+    count = 0
+    if (depth < 12) { if (!by_anchors) count = anchors(i, m, j, n, 4); if (!count) count = anchors(i, m, j, n, 1) }
+    if (count) {
+      p = m; q = n
+      for (k = 1; k <= count; k++) { push(ax[k], p, ay[k], q, depth + 1); p = ax[k]; q = ay[k] }
+      push(i, p, j, q, depth + 1)
+      continue
+    }
+    while (i < m && j < n) {
+      steps = spent < 300000 ? 128 : spent < 1500000 ? 16 : 4
+      if (search(i, m, j, n, steps)) { keep_runs(1); break }
+      for (first = 1; first <= runs && rc[first] < 3; first++);           # what it ends with may be chance
+      if (first > runs || 2 * (rx[first] + ry[first] + 2 * rc[first] - i - j) <= rx[1] + ry[1] + 2 * rc[1] - i - j) first = 1
+      keep_runs(first)
+      if (runs) { i = rx[first] + rc[first]; j = ry[first] + rc[first] } else { i++; j++ }
+    }
+  }
+}
+
+# What goes and what comes, less what is equal at the front and at the end.
+function put(p, s, q, t,  a0, s0, goes, come) {
+  a0 = p; s0 = s
+  while (p < s && q < t && substr(OLD, p + 1, 1) == substr(NEW, q + 1, 1)) { p++; q++ }
+  if (p < s || q < t) while (p > a0 && (is_joined(OLD, p) || is_joined(NEW, q))) { p--; q-- }
+  while (s > p && t > q && substr(OLD, s, 1) == substr(NEW, t, 1)) { s--; t-- }
+  while (s < s0 && (is_joined(OLD, s) || is_joined(NEW, t))) { s++; t++ }
+  if (s == p && t == q) return
+  place += characters(substr(OLD, told + 1, p - told))
+  told = s
+  goes = characters(substr(OLD, p + 1, s - p))
+  come = substr(NEW, q + 1, t - q)
+  insert(place + goes, come)
+  erase(place, goes)
+  place += characters(come)
+}
+
+# Words and what is between them, or lines, from a place to another; where each ends.
+function ends_of(s, at, end, by_lines, ends,  count, is_in) {
+  if (by_lines) {
+    for (; at < end; at++) if (substr(s, at + 1, 1) == "\n") ends[++count] = at + 1
+    if (!count || ends[count] < end) ends[++count] = end
+    return count
+  }
+  for (is_in = space[substr(s, at + 1, 1)]; at < end; at++) if (space[substr(s, at + 1, 1)] != is_in) { ends[++count] = at; is_in = !is_in }
+  ends[++count] = end
+  return count
+}
+
+# What has nothing in common: line with line, and word with word where there are as many; otherwise in proportion.
+function pair(p, m, q, n, by_lines,  olds, news, x, y, parts, k, s, t) {
+  if (by_lines && (p == m || q == n || is_blank(OLD, p, m) || is_blank(NEW, q, n))) { put(p, m, q, n); return }
+  olds = ends_of(OLD, p, m, by_lines, x)
+  news = ends_of(NEW, q, n, by_lines, y)
+  parts = least(olds, news)
+  if (!by_lines && olds != news) parts = parts < 32 ? 1 : int(parts / 16)
+  for (k = 1; k <= parts; k++) {
+    s = x[int(k * olds / parts)]; t = y[int(k * news / parts)]
+    if (by_lines) pair(p, s, q, t, 0); else put(p, s, q, t)
+    p = s; q = t
+  }
+}
+
+function is_blank(s, at, end) {
+  for (; at < end; at++) if (!space[substr(s, at + 1, 1)]) return 0
+  return 1
+}
+
+# So many bytes stay; what is before them is done now.
+function stays(p, q, count) {
+  if (p > done_old || q > done_new) pair(done_old, p, done_new, q, 1)
+  done_old = p + count
+  done_new = q + count
+}
+
+function stripped(s) { sub(/^[\t-\r ]+/, "", s); sub(/[\t-\r ]+$/, "", s); return s }
+
+function same_but_spaces(at_old, old, at_new, new,  x, p, q, n, m, size_) {
+  if (old == new) { stays(at_old, at_new, length(old)); return }
+  x = stripped(old)
+  if (x != "" && x == stripped(new)) { match(old, /[^\t-\r ]/); p = RSTART; match(new, /[^\t-\r ]/); stays(at_old + p - 1, at_new + RSTART - 1, length(x)); return }
+  n = length(old); m = length(new)
+  for (p = q = 0; ;) {
+    while (p < n && space[substr(old, p + 1, 1)]) p++
+    while (q < m && space[substr(new, q + 1, 1)]) q++
+    for (size_ = 0; p + size_ < n && q + size_ < m && !space[substr(old, p + size_ + 1, 1)] && !space[substr(new, q + size_ + 1, 1)]; size_++);
+    if (size_ == 0) return
+    stays(at_old + p, at_new + q, size_)
+    p += size_; q += size_
+  }
+}
+
+# A line without its spaces. Of a long one in parts, since `gsub` takes time with the square of what it finds.
+function squeezed(s,  half) {
+  if (length(s) > 4096) { half = int(length(s) / 2); return squeezed(substr(s, 1, half)) squeezed(substr(s, half + 1)) }
+  gsub(/[\t-\r ]+/, "", s)
+  return s
+}
+
+# How many bytes are equal at the front: by halving.
+function front_of(s, t,  low, high, middle) {
+  for (high = least(length(s), length(t)); low < high;) {
+    middle = int((low + high + 1) / 2)
+    if (substr(s, low + 1, middle - low) == substr(t, low + 1, middle - low)) low = middle; else high = middle - 1
+  }
+  return low + 0
+}
+
+# Lines that aren't the same: by words, whatever is between them.
+function words(p, gone, q, come,  front, x, y, u, v, olds, news, k, same, all_old, all_new) {
+  front = front_of(gone, come)
+  while (front > 0 && !space[substr(gone, front, 1)]) front--
+  stays(p, q, front)
+  olds = tokens_of(gone, front, length(gone), x, u)
+  news = tokens_of(come, front, length(come), y, v)
+  if (!olds || !news) return
+  align(x, olds, y, news, 0)
+  for (k = 1; k <= pairs; k++) same += length(x[px[k]])
+  for (k = 1; k <= olds; k++) all_old += length(x[k])
+  for (k = 1; k <= news; k++) all_new += length(y[k])
+  if (5 * same < least(all_old, all_new)) return
+  for (k = 1; k <= pairs; k++) stays(p + u[px[k]], q + v[py[k]], length(x[px[k]]))
+}
+
+# Whether three of four lines (of 32 that it looks at) begin and end as the other one does, for half of the shorter.
+function is_line_by_line(i, j, count,  looks, k, at, x, y, front, tail, alike, most) {
+  looks = least(count, 32)
+  for (k = 0; k < looks; k++) {
+    at = int(k * count / looks)
+    x = stripped(old[i + at]); y = stripped(new[j + at])
+    front = front_of(x, y)
+    most = least(length(x), length(y)) - front
+    for (tail = 0; tail < most && substr(x, length(x) - tail, 1) == substr(y, length(y) - tail, 1); tail++);
+    if (2 * (front + tail) >= most + front) alike++
+  }
+  return 4 * alike >= 3 * looks
+}
+
+function changed_lines(p, i, x, q, j, y,  k) {
+  if (x - i == y - j && is_line_by_line(i, j, x - i))
+    for (k = 0; k < x - i; k++) { words(p, old[i + k], q, new[j + k]); p += length(old[i + k]); q += length(new[j + k]) }
+  else words(p, joined(old, i, x - 1), q, joined(new, j, y - 1))
+}
+
+BEGIN {
+  for (k = 1; k < 256; k++) ord[sprintf("%c", k)] = k
+  for (k = 9; k <= 13; k++) space[sprintf("%c", k)] = 1
+  space[" "] = 1
+  joiner = "\342\200\215"
+}
+FNR == 1 { file++ }
+{ gsub(/\376/, "\n"); if (file == 1) old[++olds] = $0; else new[++news] = $0 }
+END {
+  OLD = joined(old, 1, olds); NEW = joined(new, 1, news)
+  for (k = 1; k <= olds; k++) old_key[k] = squeezed(old[k])
+  for (k = 1; k <= news; k++) new_key[k] = squeezed(new[k])
+  align(old_key, olds + 0, new_key, news + 0, 1)
+  lines = pairs
+  for (k = 1; k <= lines; k++) { lx[k] = px[k]; ly[k] = py[k] }
+  lx[lines + 1] = olds + 1; ly[lines + 1] = news + 1
+  i = j = 1
+  for (k = 1; k <= lines + 1; k++) {
+    x = lx[k]; y = ly[k]
+    if (x > i && y > j) changed_lines(at_old, i, x, at_new, j, y)
+    if (x > olds) break
+    for (; i < x; i++) at_old += length(old[i])
+    for (; j < y; j++) at_new += length(new[j])
+    same_but_spaces(at_old, old[x], at_new, new[y])
+    at_old += length(old[i++]); at_new += length(new[j++])
+  }
+  stays(length(OLD), length(NEW), 0)
+}

@@ -53,11 +53,10 @@ marked_lines() (
 write_script() {
   local answers=
   if marked_lines "$1" >"$room/old.lines" && marked_lines "$2" >"$room/new.lines"; then
-    LC_ALL=C diff -a --unchanged-line-format='=%L' --old-line-format='-%L' --new-line-format='+%L' "$room/old.lines" "$room/new.lines" |
-      LC_ALL=C awk -f "$top/bin/edits.awk" | LC_ALL=C tr '\377' '\000' >"$room/script"
+    LC_ALL=C awk -f "$top/bin/edits.awk" "$room/old.lines" "$room/new.lines" | LC_ALL=C tr '\377' '\000' >"$room/script"
     answers=${PIPESTATUS[*]}
   fi
-  case $answers in '0 0 0' | '1 0 0') return ;; esac
+  [ "$answers" != '0 0' ] || return 0
   say "the two texts could not be compared; is ${TMPDIR:-/tmp} full? Nothing was done."
   exit 8
 }

@@ -13,6 +13,7 @@
 
 ;;; Code:
 
+(require 'rls-compare)
 (require 'rls-session)
 (require 'rls-mailbox)
 
@@ -59,20 +60,53 @@ What each other command did is undone by itself."
       (setq rls--typed (1+ rls--typed))
     (setq rls--boundary t rls--typed 1)))
 
-(defun rls--changed (from to gone)
-  "Hands a change of the buffer to the session."
+(defvar-local rls--pending nil
+  "What was changed and isn't handed on yet: (FROM TO TEXT).
+From FROM to TO the buffer had TEXT.")
+
+(defun rls--changing (from to)
+  "Remembers what is there before a change.
+One command may delete a text and then insert another one there, as what is
+filled anew or piped through a program; so changes that touch are put together
+and compared, once the command is done or something else is changed."
   (unless (or rls--silent rls--failed)
-    (save-match-data
-      (rls--try (lambda ()
-                  (when (and (= rls--version 2) (or rls--boundary (>= rls--steps rls--most-steps)))
-                    (rls--send-request "g" nil #'ignore)
-                    (setq rls--steps 0))
-                  (setq rls--boundary nil)
-                  (when (> gone 0) (rls--edit (format "d %d %d" (1- from) gone)))
-                  (when (> to from)
-                    (let ((come (save-restriction (widen) (buffer-substring-no-properties from to))))
-                      (rls--edit (format "i %d %s" (1- from) (rls--escaped come)))))
-                  (rls--edited))))))
+    (when (and rls--pending (or (> from (nth 1 rls--pending)) (< to (nth 0 rls--pending)))) (rls--flush))
+    (save-restriction
+      (widen)
+      (if (not rls--pending) (setq rls--pending (list from to (buffer-substring-no-properties from to)))
+        (when (< from (nth 0 rls--pending))
+          (setf (nth 2 rls--pending) (concat (buffer-substring-no-properties from (nth 0 rls--pending)) (nth 2 rls--pending))
+                (nth 0 rls--pending) from))
+        (when (> to (nth 1 rls--pending))
+          (setf (nth 2 rls--pending) (concat (nth 2 rls--pending) (buffer-substring-no-properties (nth 1 rls--pending) to))
+                (nth 1 rls--pending) to))))))
+
+(defun rls--changed (from to gone)
+  "Notes how long what was changed is now."
+  (unless (or rls--silent rls--failed (not rls--pending))
+    (setf (nth 1 rls--pending) (+ (nth 1 rls--pending) (- to from) (- gone)))
+    ;; Outside of a command, as in a timer or a program, nothing tells the end.
+    (unless this-command (rls--flush))))
+
+(defun rls--flush ()
+  "Hands to the session what was changed."
+  (when (and rls--pending (not rls--failed))
+    (pcase-let ((`(,from ,to ,gone) rls--pending))
+      (setq rls--pending nil)
+      (let ((come (save-restriction (widen) (buffer-substring-no-properties from to))))
+        (unless (equal gone come)
+          (save-match-data
+            (rls--try (lambda ()
+                        (when (and (= rls--version 2) (or rls--boundary (>= rls--steps rls--most-steps)))
+                          (rls--send-request "g" nil #'ignore)
+                          (setq rls--steps 0))
+                        (setq rls--boundary nil)
+                        ;; What comes is put behind what goes, and then that goes: so the run of identifiers that ends there goes on.
+                        (dolist (x (rls-compare gone come))
+                          (let ((at (+ from -1 (nth 0 x))) (count (nth 1 x)))
+                            (unless (equal (nth 2 x) "") (rls--edit (format "i %d %s" (+ at count) (rls--escaped (nth 2 x)))))
+                            (when (> count 0) (rls--edit (format "d %d %d" at count)))))
+                        (rls--edited)))))))))
 
 (defun rls--edit (request)
   "Asks for an edit that is in the buffer already."
@@ -133,6 +167,7 @@ What is elsewhere stays.  Answers the end of the last one; nil if there is none.
       last)))
 
 (defun rls--text ()
+  (rls--flush)
   (let ((reply (rls--ask-all "t")))
     (rls--number (car reply) "text")
     (decode-coding-string (cadr reply) 'utf-8-unix)))
@@ -298,6 +333,7 @@ for, then it is stored, and what was answered is written after that."
 (defun rls--try (what)
   "Calls WHAT.
 After a fault nothing more is done with the buffer, which keeps what it shows."
+  (when rls--pending (rls--flush))
   (unless rls--failed
     (condition-case fault (let ((rls--busy t) (inhibit-quit nil)) (funcall what))
       ;; After a quit the reply to a request may still come, and would be taken for that of another.
@@ -366,10 +402,12 @@ If a file was named, by `write-file', the text is written there as a copy, as
 (defun rls--stay ()
   "Has Emacs call `rls--changed' after a change of the major mode.
 Emacs keeps the hook, and calls it only once somebody has looked at it."
-  (when rls-mode (add-hook 'after-change-functions #'rls--changed nil t)))
+  (when rls-mode
+    (add-hook 'before-change-functions #'rls--changing nil t)
+    (add-hook 'after-change-functions #'rls--changed nil t)))
 
-(dolist (function '(rls--before-command rls--changed rls--save rls--close)) (put function 'permanent-local-hook t))
-(dolist (variable '(rls-mode rls-undo-mode rls--folder rls--name rls--unsaved rls--since rls--due rls--timer rls--steps rls--boundary
+(dolist (function '(rls--before-command rls--changing rls--changed rls--flush rls--save rls--close)) (put function 'permanent-local-hook t))
+(dolist (variable '(rls-mode rls-undo-mode rls--pending rls--folder rls--name rls--unsaved rls--since rls--due rls--timer rls--steps rls--boundary
                              rls--typed rls--told rls--behind rls--process rls--version rls--telling rls--given rls--waiting rls--failed
                              rls--shared rls--head rls--group rls--members rls--me rls--seen rls--taken rls--sent rls--last rls--marks
                              rls--looked rls--away rls--changes rls--problems rls--shown rls--place rls--places rls--lookup-due
@@ -382,7 +420,9 @@ Emacs keeps the hook, and calls it only once somebody has looked at it."
   :keymap (make-sparse-keymap)
   (when rls-mode
     (add-hook 'pre-command-hook #'rls--before-command nil t)
+    (add-hook 'before-change-functions #'rls--changing nil t)
     (add-hook 'after-change-functions #'rls--changed nil t)
+    (add-hook 'post-command-hook #'rls--flush nil t)
     (add-hook 'write-contents-functions #'rls--save nil t)
     (add-hook 'kill-buffer-hook #'rls--close nil t)
     (add-hook 'after-change-major-mode-hook #'rls--stay)
@@ -402,7 +442,7 @@ What was typed and isn't in the replica is put in again; nothing is deleted,
 since what isn't in the buffer may be of others."
   (when (process-live-p rls--process) (process-send-eof rls--process))
   (ignore-errors (rls--end-process))
-  (setq rls--failed nil rls--unsaved nil rls--behind nil rls--boundary t rls--taken nil rls--seen nil)
+  (setq rls--failed nil rls--pending nil rls--unsaved nil rls--behind nil rls--boundary t rls--taken nil rls--seen nil)
   (rls--begin rls-program rls--folder)
   (dotimes (from rls--members) (rls--take-from from))
   (let* ((shown (save-restriction (widen) (buffer-substring-no-properties (point-min) (point-max)))) (stored (rls--text))

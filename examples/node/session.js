@@ -3,6 +3,7 @@ import { execFile } from 'node:child_process';
 import { EventEmitter } from 'node:events';
 import { promisify } from 'node:util';
 import { changeOf, crossed, difference, lineOf } from './changes.js';
+import { compared } from './compare.js';
 import { Refused, RlsError } from './errors.js';
 import { Program } from './program.js';
 import { Text } from './text.js';
@@ -209,11 +210,16 @@ export class Session extends EventEmitter {
     this.isUnsaved = true;
   }
 
+  /** What comes is put behind what goes, and then that goes: so the run of identifiers that ends there goes on (examples/COMPARE.md). */
+  #editsOf(at, count, string) {
+    const [from, to] = [this.#text.toCharacters(at), this.#text.toCharacters(at + count)];
+    return [...insertions(to, string), ...deletions(from, to - from)];
+  }
+
   /** Takes `count` units away from `at` on, and puts `string` there. The text here has it at once; the answer comes when the program has it. */
   async replace(at, count, string) {
     if (this.#failure) throw this.#failure;
-    const from = this.#text.toCharacters(at);
-    const edits = [...deletions(from, this.#text.toCharacters(at + count) - from), ...insertions(from, string)];
+    const edits = this.#editsOf(at, count, string);
     this.#text.splice(at, count, string);
     if (edits.length > 0) await this.#asked({ edits });
   }
@@ -226,14 +232,15 @@ export class Session extends EventEmitter {
     return this.replace(at, count, '');
   }
 
-  /** Makes the text this one, by what is between the equal fronts and the equal ends. */
+  /** Makes the text this one, and where it stays as it is, what others write there keeps its place (examples/COMPARE.md). */
   async setText(string) {
-    const now = this.text;
-    const found = difference(now, string);
-    if (found.length === 0) return;
-    const at = this.#text.toUnits(found[0].at);
-    const count = found[0].count ? this.#text.toUnits(found[0].at + found[0].count) - at : 0;
-    await this.replace(at, count, string.slice(at, string.length - (now.length - at - count)));
+    if (this.#failure) throw this.#failure;
+    const edits = [];
+    for (const { at, count, text } of compared(this.text, string).found.reverse()) {
+      edits.push(...this.#editsOf(at, count, text));
+      this.#text.splice(at, count, text);
+    }
+    if (edits.length > 0) await this.#asked({ edits });
   }
 
   // --- Undo

@@ -50,7 +50,10 @@ local read_again
 local function watch(self)
   local group = api.nvim_create_augroup('rls' .. self.buf, { clear = true })
   local function on(events, callback) api.nvim_create_autocmd(events, { group = group, buffer = self.buf, callback = callback }) end
-  on({ 'TextChanged', 'InsertLeave' }, function() self.is_boundary = true end)
+  on({ 'TextChanged', 'InsertLeave' }, function()
+    self:try('flush')
+    self.is_boundary = true
+  end)
   on('BufWriteCmd', function(event)
     self:try('sync')
     write_copy(self, event)

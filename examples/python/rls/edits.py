@@ -1,9 +1,9 @@
 """Edits as lines of the program, and the least edits that make one text of another."""
-import difflib
 import re
 from typing import Iterable, List, NamedTuple
 
 from . import limits
+from .compare import replacements
 
 
 class Change(NamedTuple):
@@ -46,49 +46,17 @@ def applied(text: str, found: Iterable[Change]) -> str:
     return text
 
 
-def _common_front(old: str, new: str, most: int) -> int:
-    """How many characters are equal at the front of both, of so many at most: by halving."""
-    low, high = 0, most
-    while low < high:
-        middle = (low + high + 1) // 2
-        if old[:middle] == new[:middle]:
-            low = middle
-        else:
-            high = middle - 1
-    return low
-
-
-def _common_end(old: str, new: str, most: int) -> int:
-    low, high = 0, most
-    while low < high:
-        middle = (low + high + 1) // 2
-        if old[len(old) - middle:] == new[len(new) - middle:]:
-            low = middle
-        else:
-            high = middle - 1
-    return low
-
-
 def changes(old: str, new: str) -> List[Change]:
-    """The changes that make `new` of `old`, one after another, from the end to the front so that places stay.
-    Equal fronts and ends are cut off first; difflib does the rest if that is small."""
-    least = min(len(old), len(new))
-    front = _common_front(old, new, least)
-    end = _common_end(old, new, least - front)
-    gone, come = old[front:len(old) - end], new[front:len(new) - end]
-    if not gone and not come:
-        return []
-    if not gone or not come or len(gone) * len(come) > 4_000_000:
-        return [Change(front, len(gone), come)]
-    found = difflib.SequenceMatcher(None, gone, come, autojunk=False).get_opcodes()
-    return [Change(front + i, j - i, come[k:m]) for kind, i, j, k, m in reversed(found) if kind != "equal"]
+    """The changes that make `new` of `old`, one after another, from the end to the front so that places stay (examples/COMPARE.md)."""
+    return [Change(*found) for found in reversed(replacements(old, new))]
 
 
 def script(old: str, new: str) -> List[str]:
-    """The lines that make one text of another."""
+    """The lines that make one text of another. What comes is put behind what goes, and then that goes: so the run of identifiers that ends
+    there goes on (examples/COMPARE.md)."""
     lines: List[str] = []
     for at, count, text in changes(old, new):
-        lines += deletion(at, count) + insertion(at, text)
+        lines += insertion(at + count, text) + deletion(at, count)
     return lines
 
 

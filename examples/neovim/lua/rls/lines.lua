@@ -1,7 +1,6 @@
 -- The lines of a text, in blocks that know how many characters they have, so that a place of the session, which counts characters, and one of
 -- Neovim, which counts lines and bytes, are found without going through the whole text. Rows count from 0.
 local MOST = 256 -- lines of a block, before it is cut
-local MOST_PLACES = 2000 -- that one change is handed on as
 
 local Lines = {}
 Lines.__index = Lines
@@ -117,68 +116,6 @@ function Lines.common_bytes(old, new)
   while last < least - front and old:byte(#old - last) == new:byte(#new - last) do last = last + 1 end
   while last > 0 and is_inside(old, #old - last + 1) do last = last - 1 end
   return front, last
-end
-
--- A text in lines, each with its line feed.
-local function lines_of(text)
-  local found = {}
-  for line in text:gmatch('[^\n]*\n?') do
-    if line ~= '' then found[#found + 1] = line end
-  end
-  return found
-end
-
--- A text in words of ASCII letters and digits, and other characters by themselves.
-local function words_of(text)
-  local found = {}
-  for word, others in text:gmatch('([0-9A-Za-z_]*)([^0-9A-Za-z_]*)') do
-    if word ~= '' then found[#found + 1] = word end
-    for character in others:gmatch('[%z\1-\127\192-\255]?[\128-\191]*') do
-      if character ~= '' then found[#found + 1] = character end
-    end
-  end
-  return found
-end
-
--- Where two texts that are cut into pieces differ: how many bytes of the old one come before, what goes there, and what comes.
-local function compared(old, new, cut)
-  local numbers, last, sides = {}, 0, {}
-  for k, text in ipairs({ old, new }) do
-    local side = { pieces = cut(text), lines = {} }
-    for n, piece in ipairs(side.pieces) do
-      if not numbers[piece] then
-        last = last + 1
-        numbers[piece] = last .. '\n'
-      end
-      side.lines[n] = numbers[piece]
-    end
-    sides[k] = side
-  end
-  local a, b = sides[1], sides[2]
-  local found, at, passed = {}, 0, 0
-  for _, hunk in ipairs(vim.diff(table.concat(a.lines), table.concat(b.lines), { result_type = 'indices' })) do
-    local from, gone, to, come = unpack(hunk)
-    if gone == 0 then from = from + 1 end
-    if come == 0 then to = to + 1 end
-    for k = passed + 1, from - 1 do at = at + #a.pieces[k] end
-    passed = from - 1
-    found[#found + 1] = { at = at, gone = table.concat(a.pieces, '', from, from + gone - 1), come = table.concat(b.pieces, '', to, to + come - 1) }
-  end
-  return found
-end
-
--- Where two texts differ, by lines and in these by words: what is between stays as it is, also for others who write there. A text in which too
--- many places differ is replaced in one piece.
-function Lines.differences(old, new)
-  if old == '' or new == '' then return { { at = 0, gone = old, come = new } } end
-  local found = {}
-  for _, part in ipairs(compared(old, new, lines_of)) do
-    for _, hunk in ipairs(compared(part.gone, part.come, words_of)) do
-      local front, tail = Lines.common_bytes(hunk.gone, hunk.come)
-      found[#found + 1] = { at = part.at + hunk.at + front, gone = hunk.gone:sub(front + 1, #hunk.gone - tail), come = hunk.come:sub(front + 1, #hunk.come - tail) }
-    end
-  end
-  return #found <= MOST_PLACES and found or { { at = 0, gone = old, come = new } }
 end
 
 -- How many lines are equal at the front and at the end of two lists.

@@ -1,6 +1,6 @@
 -- A replica in a buffer: what is typed goes to the session as it is typed, and what others changed is put in place in the buffer.
 local Session, Lines, Mailbox = require('rls.session'), require('rls.lines'), require('rls.mailbox')
-local files = require('rls.files')
+local files, compared = require('rls.files'), require('rls.compare')
 local uv, api = vim.loop, vim.api
 local MOST_INPUT = 67108864 - 4096 -- bytes that a session reads before it stores, less some
 local MOST_STEPS = 5000 -- edits that are undone at once: a session forgets a group that has more than 10,000
@@ -39,6 +39,7 @@ end
 
 function Replica:start()
   self.session = Session.start(self.options.program, self.folder)
+  self.session.before = function() self:flush() end
   self.session.telling = self.session:ask('v') == 'version 2' and self.session:ask('c 1') == 'telling 1'
   self.version = self.session.telling and 2 or 1
 end
@@ -79,11 +80,33 @@ function Replica:attach()
   api.nvim_buf_attach(self.buf, false, { on_lines = function(_, _, _, first, last, new_last) self:try('changed', first, last, new_last) end })
 end
 
--- What the editor tells: these lines were changed.
+-- What the editor tells: these lines were changed. One command may tell several times, `gq` first that the lines have gone and then that others
+-- have come, so what was told is put together, and compared once: when Neovim is back in its loop, or before the next request.
 function Replica:changed(first, last, new_last)
-  local new = api.nvim_buf_get_lines(self.buf, first, new_last, false)
-  if new_last - first - (last - first) + self.lines.size == 0 then new = { '' } end
-  if not self.is_silent then self:tell(first, last, new) end
+  local told = self.told
+  if self.is_silent then
+    self.lines:splice(first, last, self:lines_now(first, last, new_last))
+  elseif not told then
+    self.told = { first, last, new_last }
+    vim.schedule(function() self:try('flush') end)
+  else
+    if last > told[3] then told[2], told[3] = told[2] + last - told[3], last end
+    told[1], told[3] = math.min(told[1], first), told[3] + new_last - last
+  end
+end
+
+-- The lines of the buffer that are there instead of those.
+function Replica:lines_now(first, last, new_last)
+  if new_last - last + self.lines.size == 0 then return { '' } end
+  return api.nvim_buf_get_lines(self.buf, first, new_last, false)
+end
+
+function Replica:flush()
+  if not self.told or self.failed then return end
+  local first, last, new_last = unpack(self.told)
+  self.told = nil
+  local new = self:lines_now(first, last, new_last)
+  self:tell(first, last, new)
   self.lines:splice(first, last, new)
 end
 
@@ -103,23 +126,21 @@ function Replica:tell(first, last, new)
     end
   end
   local gone, come = table.concat(old, '\n'), table.concat(new, '\n')
-  local front, tail = Lines.common_bytes(gone, come)
-  local at = self.lines:place(first, 0) + (front > 0 and count(gone:sub(1, front)) or 0)
-  gone, come = gone:sub(front + 1, #gone - tail), come:sub(front + 1, #come - tail)
-  if gone == '' and come == '' then return end
+  if gone == come then return end
+  local at = self.lines:place(first, 0)
   if self.version == 2 and (self.is_boundary or self.steps >= MOST_STEPS) then
     self.session:send('g', nil, function() end)
     self.steps = 0
   end
   self.is_boundary = false
   local passed = 0 -- bytes of what was there
-  for _, place in ipairs(Lines.differences(gone, come)) do
+  for _, place in ipairs(compared(gone, come)) do
     if place.at > passed then at = at + count(gone:sub(passed + 1, place.at)) end
-    if place.gone ~= '' then self:edit(('d %d %d'):format(at, count(place.gone))) end
-    if place.come ~= '' then
-      self:edit(('i %d %s'):format(at, escaped(place.come)))
-      at = at + count(place.come)
-    end
+    local goes = place.gone == '' and 0 or count(place.gone)
+    -- What comes is put behind what goes, and then that goes: so the run of identifiers that ends there goes on.
+    if place.come ~= '' then self:edit(('i %d %s'):format(at + goes, escaped(place.come))) end
+    if goes > 0 then self:edit(('d %d %d'):format(at, goes)) end
+    if place.come ~= '' then at = at + count(place.come) end
     passed = place.at + #place.gone
   end
   self:is_edited()
@@ -246,6 +267,7 @@ end
 -- Undo ------------------------------------------------------------------------
 
 function Replica:take_back(request, nothing)
+  self:flush()
   self.session:drain()
   local reply, _, changes = self.session:ask(request)
   if reply == 'no nothing' then
@@ -356,6 +378,7 @@ end
 -- Takes what came. It waits until the session has answered what was asked before, since its changes are of the text as it is then. The timer
 -- doesn't wait: it looks again.
 function Replica:take(is_asked)
+  self:flush()
   if not is_asked and not self.session:is_idle() then return end
   self.session:drain()
   if self.lines.size ~= api.nvim_buf_line_count(self.buf) then error('rls: the buffer has other lines than it told', 0) end
@@ -419,7 +442,7 @@ end
 function Replica:open_again()
   self.session:close() -- at the end of its input it stores
   self:start()
-  self.failed, self.is_behind, self.is_boundary, self.unsaved, self.taken, self.seen = nil, false, true, false, {}, {}
+  self.failed, self.told, self.is_behind, self.is_boundary, self.unsaved, self.taken, self.seen = nil, nil, false, true, false, {}, {}
   local shown = api.nvim_buf_get_lines(self.buf, 0, -1, true)
   for from = 0, self.members - 1 do self:take_from(from, {}) end
   local stored = vim.split(self:text(), '\n', { plain = true })

@@ -35,8 +35,9 @@ end
 function Session:is_idle() return self.waiting[self.first] == nil end
 
 -- Sends a request with the bytes that belong to it. `handler(reply, data, changes)` gets the first line of its reply, the bytes after it, and
--- the lines of changes, where those are told.
+-- the lines of changes, where those are told. `before` is called first: it hands on what the buffer has and the session doesn't.
 function Session:send(request, data, handler)
+  if self.before then self.before() end
   local sent = request .. '\n' .. (data or '')
   self.last = self.last + 1
   self.waiting[self.last] = { kind = request:sub(1, 1), handler = handler }

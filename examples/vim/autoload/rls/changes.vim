@@ -1,6 +1,5 @@
 " From the buffer to the session: lines that were changed in the buffer are handed on as they are typed, as deletions and insertions of characters.
 let s:most_steps = 5000                         " edits that are undone at once: a session forgets a group that has more than 10,000
-let s:most_lines = 1000                         " changed lines that are handed on one by one
 
 " From now on each change of the buffer is handed on.
 function rls#changes#listen(r) abort
@@ -32,23 +31,16 @@ function s:tell(r, changes) abort
     let new = ['']
   endif
   let old = rls#lines#middle(a:r.text.lines, first - 1, len(a:r.text.lines) + 1 - last)
-  if empty(filter(copy(a:changes), {_, change -> change.added != 0})) && len(old) == len(new) && len(old) <= s:most_lines
-    let changed = filter(range(len(old)), {_, k -> old[k] !=# new[k]})
-    for k in changed
-      call s:replace(a:r, first + k, [old[k]], [new[k]], len(changed))
-    endfor
-  else
-    call s:replace(a:r, first, old, new, 1)
-  endif
+  call s:replace(a:r, first, old, new)
 endfunction
 
-function s:replace(r, first, old, new, share) abort
-  call s:hand(a:r, a:first, a:old, a:new, a:share)
+function s:replace(r, first, old, new) abort
+  call s:hand(a:r, a:first, a:old, a:new)
   call rls#lines#splice(a:r.text, a:first, len(a:old), a:new)
 endfunction
 
-" Hands it on that these lines are now those, one of as many that were changed at once: a deletion and an insertion for each place where they differ.
-function s:hand(r, first, old, new, share) abort
+" Hands it on that these lines are now those: an insertion and a deletion for each place where they differ (examples/COMPARE.md).
+function s:hand(r, first, old, new) abort
   let [first, old, new] = [a:first, copy(a:old), copy(a:new)]
   " One line of each, so that what is compared next are whole lines of both.
   if empty(old) || empty(new)
@@ -62,24 +54,23 @@ function s:hand(r, first, old, new, share) abort
     endif
   endif
   let [gone, come] = [rls#lines#characters(old), rls#lines#characters(new)]
-  let [front, end] = rls#lines#common(gone, come)
   if gone ==# come
     return
   endif
-  let at = rls#lines#place(a:r.text, first) + front
+  let at = rls#lines#place(a:r.text, first)
   if a:r.version == 2 && (a:r.boundary || a:r.steps >= s:most_steps)
     call rls#session#send(a:r, 'g', 0z, {-> 0})
     let a:r.steps = 0
   endif
   let a:r.boundary = 0
-  let [gone, come] = [rls#lines#middle(gone, front, end), rls#lines#middle(come, front, end)]
   let moved = 0
-  for [from, to, from_new, to_new] in rls#lines#differences(gone, come, a:share)
+  for [from, to, from_new, to_new] in rls#compare#Compared(gone, come)
+    " What comes is put behind what goes, and then that goes: so the run of identifiers that ends there goes on.
+    if to_new > from_new
+      call s:edit(a:r, rls#lines#insertion(at + to + moved, come[from_new : to_new - 1]))
+    endif
     if to > from
       call s:edit(a:r, printf('d %d %d', at + from + moved, to - from))
-    endif
-    if to_new > from_new
-      call s:edit(a:r, rls#lines#insertion(at + from + moved, come[from_new : to_new - 1]))
     endif
     let moved += to_new - from_new - (to - from)
   endfor

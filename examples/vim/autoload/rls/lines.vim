@@ -1,7 +1,6 @@
 " The lines of a text, with an index of blocks of lines that knows how many characters they have, so that a place of the session, which counts
 " characters, and one of Vim, which counts lines and bytes, are found without going through the whole text. Lines count from 1, as Vim's do.
 let s:most = 256            " lines of a block
-let s:most_words = 300      " that come or go, where a change is handed on by its places: for so many it takes a tenth of a second
 
 " An index of lines: for each block how many lines and how many characters it has, each line with its line feed.
 function rls#lines#new(lines) abort
@@ -123,113 +122,6 @@ function rls#lines#insertion(at, characters) abort
   endfor
   return list2blob(bytes)
 endfunction
-
-" Where each word of some characters begins, and after them the end: a word is ASCII letters and digits, or another character by itself.
-def s:Beginnings(characters: list<number>): list<number>
-  var begins: list<number> = []
-  var is_word = false
-  for at in range(len(characters))
-    const c = characters[at]
-    const is_letter = (c >= 48 && c <= 57) || (c >= 65 && c <= 90) || (c >= 97 && c <= 122)
-    if !(is_word && is_letter)
-      add(begins, at)
-    endif
-    is_word = is_letter
-  endfor
-  return add(begins, len(characters))
-enddef
-
-" A number for each word, the same for the same one.
-def s:Numbered(characters: list<number>, begins: list<number>, numbers: dict<number>): list<number>
-  var found: list<number> = []
-  for k in range(len(begins) - 1)
-    const word = join(characters[begins[k] : begins[k + 1] - 1])
-    if !has_key(numbers, word)
-      numbers[word] = len(numbers)
-    endif
-    add(found, numbers[word])
-  endfor
-  return found
-enddef
-
-" How the new list is made of the old one, by Myers' "An O(ND) Difference Algorithm and Its Variations": for each number of members that have gone or
-" come, how far one gets in the old list by one less, on each diagonal (the place in the old list less that in the new one; 0 is at `limit` + 1). It
-" is an empty list if more than `limit` go or come.
-def s:Reached(old: list<number>, new: list<number>, limit: number): list<list<number>>
-  const [m, n] = [len(old), len(new)]
-  var far = repeat([0], 2 * limit + 3)
-  var all: list<list<number>> = []
-  for d in range(limit + 1)
-    add(all, copy(far))
-    for k in range(-d, d, 2)
-      const at = k + limit + 1
-      var x = k == -d || (k != d && far[at - 1] < far[at + 1]) ? far[at + 1] : far[at - 1] + 1
-      while x < m && x - k < n && old[x] == new[x - k]
-        x += 1
-      endwhile
-      far[at] = x
-      if x >= m && x - k >= n
-        return all
-      endif
-    endfor
-  endfor
-  return []
-enddef
-
-" The way back through what was reached: where members go and come, the last first, each as where it begins and ends in the old and in the new list.
-def s:Way(all: list<list<number>>, old: number, new: number, limit: number): list<list<number>>
-  var found: list<list<number>> = []
-  var x = old
-  var y = new
-  for d in range(len(all) - 1, 1, -1)
-    const far = all[d]
-    const k = x - y
-    const at = k + limit + 1
-    const is_come = k == -d || (k != d && far[at - 1] < far[at + 1])
-    x = is_come ? far[at + 1] : far[at - 1]
-    y = x - (is_come ? k + 1 : k - 1)
-    const ends = is_come ? [x, y + 1] : [x + 1, y]
-    if !empty(found) && found[-1][0] == ends[0] && found[-1][2] == ends[1]
-      found[-1][0] = x
-      found[-1][2] = y
-    else
-      add(found, [x, ends[0], y, ends[1]])
-    endif
-  endfor
-  return reverse(found)
-enddef
-
-" Where two lists of as many members differ, one by one.
-def s:Pairs(old: list<number>, new: list<number>): list<list<number>>
-  var found: list<list<number>> = []
-  for k in range(len(old))
-    if old[k] != new[k]
-      if !empty(found) && found[-1][1] == k
-        found[-1][1] = k + 1
-        found[-1][3] = k + 1
-      else
-        add(found, [k, k + 1, k, k + 1])
-      endif
-    endif
-  endfor
-  return found
-enddef
-
-" Where two lists of characters differ, by words: where each place begins and ends in the old and in the new list. What is between stays as it is,
-" also for others who write there. Lists that differ too much are compared word by word if they have as many, and are one place otherwise. They are one of `share` pairs that are compared at once, and the time is
-" for all of them.
-def rls#lines#differences(old: list<number>, new: list<number>, share: number): list<list<number>>
-  const [from, to] = [s:Beginnings(old), s:Beginnings(new)]
-  var numbers: dict<number> = {}
-  const limit = min([float2nr(s:most_words * 2 / sqrt(max([share, 4]))), len(from) + len(to) - 2])
-  const words = [s:Numbered(old, from, numbers), s:Numbered(new, to, numbers)]
-  const all = s:Reached(words[0], words[1], limit)
-  if empty(old) || empty(new) || (empty(all) && len(from) != len(to))
-    return [[0, len(old), 0, len(new)]]
-  endif
-  const places = empty(all) ? s:Pairs(words[0], words[1]) : s:Way(all, len(from) - 1, len(to) - 1, limit)
-  return mapnew(places, (_, place) => [from[place[0]], from[place[1]], to[place[2]], to[place[3]]])
-enddef
 
 " How many members are equal at the front and at the end of two lists.
 function rls#lines#common(old, new) abort

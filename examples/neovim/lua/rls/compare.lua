@@ -1,0 +1,391 @@
+-- Where two texts differ, so that what others write in between keeps its place: examples/COMPARE.md. Places count bytes from 0.
+local STEPS = 128 -- members that go or come, after which it looks back and goes on from where it is
+local WORK = { 300000, 1500000 } -- steps of the search, after which STEPS is 16, and then 4
+local DEPTH = 12 -- anchors within anchors
+local floor, min = math.floor, math.min
+
+local function is_space(byte) return byte == 32 or (byte >= 9 and byte <= 13) end
+
+-- The character whose first byte is at a place, and how many bytes it has. What is no UTF-8 is characters of one byte.
+local function character(text, at)
+  local a, b, c, d = text:byte(at + 1, at + 4)
+  if a >= 0xf0 and d then return (a - 0xf0) * 262144 + (b - 0x80) * 4096 + (c - 0x80) * 64 + d - 0x80, 4 end
+  if a >= 0xe0 and c then return (a - 0xe0) * 4096 + (b - 0x80) * 64 + c - 0x80, 3 end
+  if a >= 0xc0 and b then return (a - 0xc0) * 64 + b - 0x80, 2 end
+  return a, 1
+end
+
+local function is_letter(c)
+  if c < 0x80 then return (c >= 97 and c <= 122) or (c >= 65 and c <= 90) or (c >= 48 and c <= 57) or c == 95 end
+  if c < 0x300 then return c == 0xaa or c == 0xb5 or c == 0xba or (c >= 0xc0 and c ~= 0xd7 and c ~= 0xf7) end
+  return c <= 0xdff or (c >= 0x10a0 and c <= 0x1fff)
+end
+
+-- Whether a character belongs to the one before it.
+local function is_mark(c)
+  if c < 0x300 then return false end
+  return c <= 0x36f or (c >= 0x1ab0 and c <= 0x1aff) or (c >= 0x1dc0 and c <= 0x1dff) or c == 0x200c or c == 0x200d or (c >= 0x20d0 and c <= 0x20ff)
+    or (c >= 0xfe00 and c <= 0xfe0f) or (c >= 0xfe20 and c <= 0xfe2f) or (c >= 0x1f3fb and c <= 0x1f3ff)
+end
+
+-- The words of a text, and its other characters but spaces, each with the marks after it; and where each begins.
+local function tokens_of(text, at)
+  local tokens, starts, size = {}, {}, #text
+  while at < size do
+    if is_space(text:byte(at + 1)) then
+      at = at + 1
+    else
+      local c, n = character(text, at)
+      local from, is_word = at, is_letter(c)
+      at = at + n
+      while at < size and not is_space(text:byte(at + 1)) do
+        local joins = c == 0x200d and not is_word
+        local next, count = character(text, at)
+        if not (joins or is_mark(next) or (is_word and is_letter(next))) then break end
+        c, at = next, at + count
+      end
+      tokens[#tokens + 1], starts[#starts + 1] = text:sub(from + 1, at), from
+    end
+  end
+  return tokens, starts
+end
+
+-- The longest part of these pairs, which rise on the left, that rises on the right too.
+local function rising(pairs)
+  local tops, at, before = {}, {}, {}
+  for k, pair in ipairs(pairs) do
+    local low, high = 1, #tops + 1
+    while low < high do
+      local middle = floor((low + high) / 2)
+      if tops[middle] < pair[2] then low = middle + 1 else high = middle end
+    end
+    before[k] = at[low - 1] or 0
+    tops[low], at[low] = pair[2], k
+  end
+  local found, k = {}, at[#at] or 0
+  while k > 0 do
+    table.insert(found, pairs[k])
+    k = before[k]
+  end
+  return found -- the last first
+end
+
+-- Where members (or so many in a row) are equal that are once in each, the last first.
+local function anchors_of(a, b, i, m, j, n, size)
+  local function once(list, from, to)
+    local found, keys = {}, {}
+    for k = from, to - size do
+      local key = size == 1 and list[k] or table.concat(list, ',', k, k + size - 1)
+      keys[k] = key
+      found[key] = found[key] and -1 or k
+    end
+    return found, keys
+  end
+  local mine, keys = once(a, i, m)
+  local other = once(b, j, n)
+  local pairs = {}
+  for k = i, m - size do
+    if mine[keys[k]] == k and (other[keys[k]] or -1) >= 0 then pairs[#pairs + 1] = { k, other[keys[k]] } end
+  end
+  return rising(pairs)
+end
+
+local function comes_at(was, base, k, d) return k == -d or (k ~= d and was[base + k - 1] < was[base + k + 1]) end
+
+-- The least members that go and come, by Myers' greedy search; if it takes more than so many steps, the way that got furthest. The last run first.
+local function search(a, b, i, m, j, n, steps, work)
+  local wide, high, off = m - i, n - j, steps + 1
+  local far, trace, x, y, is_done, last = {}, {}, 0, 0, false, 0
+  for k = 0, 2 * steps + 2 do far[k] = 0 end
+  for d = 0, steps do
+    local was = {}
+    for k = 0, 2 * d + 2 do was[k] = far[off - d - 1 + k] end
+    trace[d], last = was, d
+    for k = -d, d, 2 do
+      x = comes_at(far, off, k, d) and far[off + k + 1] or far[off + k - 1] + 1
+      y = x - k
+      while x < wide and y < high and a[i + x] == b[j + y] do x, y = x + 1, y + 1 end
+      far[off + k] = x
+      if x >= wide and y >= high then
+        is_done = true
+        break
+      end
+    end
+    work.spent = work.spent + d + 1
+    if is_done then break end
+  end
+  if not is_done then
+    local best = -1
+    for k = -steps, steps, 2 do
+      local to = far[off + k]
+      if to <= wide and to - k <= high and 2 * to - k > best then best, x, y = 2 * to - k, to, to - k end
+    end
+  end
+  local runs = {}
+  for d = last, 1, -1 do
+    local was, k = trace[d], x - y -- was[d + 1 + k] is diagonal k
+    local comes = comes_at(was, d + 1, k, d)
+    local before = comes and k + 1 or k - 1
+    local p = was[d + 1 + before]
+    local start = comes and p or p + 1
+    if x > start then runs[#runs + 1] = { i + start, j + start - k, x - start } end
+    x, y = p, p - before
+  end
+  if x > 0 then runs[#runs + 1] = { i, j, x } end
+  return is_done, runs
+end
+
+-- Which members stay, as runs (place, place, count). Both lists count from 0.
+local function runs_of(a, b, size_a, size_b, by_anchors, work)
+  local found, todo = {}, { { 0, size_a, 0, size_b, 0 } }
+  local function add(runs, from)
+    for k = #runs, from, -1 do found[#found + 1] = runs[k] end
+  end
+  while #todo > 0 do
+    local i, m, j, n, depth = unpack(table.remove(todo))
+    if depth < 0 then
+      found[#found + 1] = { i, j, m - i }
+    else
+      local k = i
+      while i < m and j < n and a[i] == b[j] do i, j = i + 1, j + 1 end
+      if i > k then found[#found + 1] = { k, j - i + k, i - k } end
+      k = m
+      while m > i and n > j and a[m - 1] == b[n - 1] do m, n = m - 1, n - 1 end
+      if k > m then todo[#todo + 1] = { m, k, n, n + k - m, -1 } end
+      local is_done, runs = i == m or j == n, {}
+      if not is_done and not by_anchors then is_done, runs = search(a, b, i, m, j, n, 16, work) end
+      if is_done then
+        add(runs, 1)
+      else
+        local anchors = {}
+        for _, size in ipairs(by_anchors and { 1 } or { 4, 1 }) do
+          if depth < DEPTH and #anchors == 0 then anchors = anchors_of(a, b, i, m, j, n, size) end
+        end
+        if #anchors > 0 then
+          local p, q = m, n
+          for _, anchor in ipairs(anchors) do
+            todo[#todo + 1] = { anchor[1], p, anchor[2], q, depth + 1 }
+            p, q = anchor[1], anchor[2]
+          end
+          todo[#todo + 1] = { i, p, j, q, depth + 1 }
+        else
+          while i < m and j < n do
+            is_done, runs = search(a, b, i, m, j, n, work.spent < WORK[1] and STEPS or work.spent < WORK[2] and 16 or 4, work)
+            if is_done then
+              add(runs, 1)
+              break
+            end
+            work.is_cut = true
+            local from = 1
+            while from <= #runs and runs[from][3] < 3 do from = from + 1 end -- what it ends with may be chance
+            local function reach(run) return run[1] + run[2] + 2 * run[3] - i - j end
+            if from > #runs or 2 * reach(runs[from]) <= reach(runs[1]) then from = 1 end
+            add(runs, from)
+            local end_of = runs[from]
+            if end_of then i, j = end_of[1] + end_of[3], end_of[2] + end_of[3] else i, j = i + 1, j + 1 end
+          end
+        end
+      end
+    end
+  end
+  return found
+end
+
+-- Which members of two lists stay, as pairs of places that rise. What the other list doesn't have is left out first.
+local function align(old, new, by_anchors, work)
+  local numbers, olds = {}, {}
+  for k, x in ipairs(new) do numbers[x] = k end
+  for _, x in ipairs(old) do olds[x] = true end
+  local function kept(list, is_there)
+    local found, places, count = {}, {}, 0
+    for k, x in ipairs(list) do
+      if is_there[x] then
+        found[count], places[count] = numbers[x], k
+        count = count + 1
+      end
+    end
+    return found, places, count
+  end
+  local a, from, size_a = kept(old, numbers)
+  local b, to, size_b = kept(new, olds)
+  local pairs = {}
+  for _, run in ipairs(runs_of(a, b, size_a, size_b, by_anchors, work)) do
+    for k = 0, run[3] - 1 do pairs[#pairs + 1] = { from[run[1] + k], to[run[2] + k] } end
+  end
+  return pairs
+end
+
+local function front_of(old, new)
+  local least, front = min(#old, #new), 0
+  while front < least and old:byte(front + 1) == new:byte(front + 1) do front = front + 1 end
+  return front
+end
+
+local function stripped(text)
+  local from = text:find('[^\t-\r ]') or #text + 1
+  return (text:sub(from):gsub('[\t-\r ]+$', '')), from - 1
+end
+
+local function lines_of(text)
+  local found = {}
+  for line in text:gmatch('[^\n]*\n?') do
+    if line ~= '' then found[#found + 1] = line end
+  end
+  return found
+end
+
+-- Words and what is between them.
+local function parts_of(text)
+  local found = {}
+  for space, word in text:gmatch('([\t-\r ]*)([^\t-\r ]*)') do
+    if space ~= '' then found[#found + 1] = space end
+    if word ~= '' then found[#found + 1] = word end
+  end
+  return found
+end
+
+local function size_of(parts, from, to)
+  local size = 0
+  for k = from, to do size = size + #parts[k] end
+  return size
+end
+
+-- Whether three of four lines (of 32 that it looks at) begin and end as the other one does, for half of the shorter.
+local function is_line_by_line(old, new)
+  local looks, alike = min(#old, 32), 0
+  for k = 0, looks - 1 do
+    local at = floor(k * #old / looks) + 1
+    local x, y = stripped(old[at]), stripped(new[at])
+    local front = front_of(x, y)
+    local tail = front_of(x:sub(front + 1):reverse(), y:sub(front + 1):reverse())
+    if 2 * (front + tail) >= min(#x, #y) then alike = alike + 1 end
+  end
+  return 4 * alike >= 3 * looks
+end
+
+-- Whether a place is within a character, or between one and what belongs to it.
+local function is_joined(text, at)
+  if at <= 0 or at >= #text then return false end
+  local byte = text:byte(at + 1)
+  if byte >= 0x80 and byte < 0xc0 then return true end
+  return text:sub(at - 2, at) == '\226\128\141' or (byte >= 0xc0 and is_mark((character(text, at))))
+end
+
+local Comparison = {}
+Comparison.__index = Comparison
+
+-- What goes and what comes, less what is equal at the front and at the end.
+function Comparison:put(a, m, b, n)
+  local old, new, p, q, s, t = self.old, self.new, a, b, m, n
+  while p < m and q < n and old:byte(p + 1) == new:byte(q + 1) do p, q = p + 1, q + 1 end
+  if p < m or q < n then
+    while p > a and (is_joined(old, p) or is_joined(new, q)) do p, q = p - 1, q - 1 end
+  end
+  while s > p and t > q and old:byte(s) == new:byte(t) do s, t = s - 1, t - 1 end
+  while s < m and (is_joined(old, s) or is_joined(new, t)) do s, t = s + 1, t + 1 end
+  if s > p or t > q then self.found[#self.found + 1] = { at = p, gone = old:sub(p + 1, s), come = new:sub(q + 1, t) } end
+end
+
+-- Parts of both lists, one with one.
+function Comparison:in_proportion(a, old, b, new, parts, put)
+  local i, j = 0, 0
+  for k = 1, parts do
+    local p, q = floor(k * #old / parts), floor(k * #new / parts)
+    local m, n = a + size_of(old, i + 1, p), b + size_of(new, j + 1, q)
+    put(self, a, m, b, n)
+    i, j, a, b = p, q, m, n
+  end
+end
+
+function Comparison:pair_words(a, m, b, n)
+  local old, new = parts_of(self.old:sub(a + 1, m)), parts_of(self.new:sub(b + 1, n))
+  self:in_proportion(a, old, b, new, #old == #new and #old or math.max(1, floor(min(#old, #new) / 16)), self.put)
+end
+
+-- What has nothing in common: line with line, and word with word where there are as many; otherwise in proportion.
+function Comparison:pair(a, m, b, n)
+  local gone, come = self.old:sub(a + 1, m), self.new:sub(b + 1, n)
+  if not gone:find('[^\t-\r ]') or not come:find('[^\t-\r ]') then return self:put(a, m, b, n) end
+  local old, new = lines_of(gone), lines_of(come)
+  self:in_proportion(a, old, b, new, min(#old, #new), self.pair_words)
+end
+
+-- So many bytes stay; what is before them is done now.
+function Comparison:stays(a, b, count)
+  if a > self.at or b > self.to then self:pair(self.at, a, self.to, b) end
+  self.at, self.to = a + count, b + count
+end
+
+function Comparison:same_but_spaces(a, old, b, new)
+  if old == new then return self:stays(a, b, #old) end
+  local x, from = stripped(old)
+  local y, to = stripped(new)
+  if x ~= '' and x == y then return self:stays(a + from, b + to, #x) end
+  local p, q = 0, 0
+  while true do
+    while p < #old and is_space(old:byte(p + 1)) do p = p + 1 end
+    while q < #new and is_space(new:byte(q + 1)) do q = q + 1 end
+    local size = 0
+    while p + size < #old and q + size < #new and not is_space(old:byte(p + size + 1)) and not is_space(new:byte(q + size + 1)) do size = size + 1 end
+    if size == 0 then return end
+    self:stays(a + p, b + q, size)
+    p, q = p + size, q + size
+  end
+end
+
+-- Lines that aren't the same: by words, whatever is between them.
+function Comparison:words(a, gone, b, come)
+  local front = front_of(gone, come)
+  while front > 0 and not is_space(gone:byte(front)) do front = front - 1 end
+  self:stays(a, b, front)
+  local old, starts = tokens_of(gone, front)
+  local new, begins = tokens_of(come, front)
+  if #old == 0 or #new == 0 then return end
+  local pairs, same = align(old, new, false, self.work), 0
+  for _, pair in ipairs(pairs) do same = same + #old[pair[1]] end
+  if 5 * same < min(size_of(old, 1, #old), size_of(new, 1, #new)) then return end
+  for _, pair in ipairs(pairs) do self:stays(a + starts[pair[1]], b + begins[pair[2]], #old[pair[1]]) end
+end
+
+function Comparison:changed_lines(a, old, b, new)
+  if #old ~= #new or not is_line_by_line(old, new) then old, new = { table.concat(old) }, { table.concat(new) } end
+  for k, line in ipairs(old) do
+    self:words(a, line, b, new[k])
+    a, b = a + #line, b + #new[k]
+  end
+end
+
+function Comparison:compare()
+  local old, new = lines_of(self.old), lines_of(self.new)
+  local function keys(lines)
+    local found = {}
+    for k, line in ipairs(lines) do found[k] = line:gsub('[\t-\r ]+', '') end
+    return found
+  end
+  local pairs = align(keys(old), keys(new), true, self.work)
+  pairs[#pairs + 1] = { #old + 1, #new + 1 }
+  local a, b, i, j = 0, 0, 1, 1
+  for _, pair in ipairs(pairs) do
+    local x, y = pair[1], pair[2]
+    if x > i and y > j then
+      local gone, come = {}, {}
+      for k = i, x - 1 do gone[#gone + 1] = old[k] end
+      for k = j, y - 1 do come[#come + 1] = new[k] end
+      self:changed_lines(a, gone, b, come)
+    end
+    if x <= #old then
+      a, b = a + size_of(old, i, x - 1), b + size_of(new, j, y - 1)
+      self:same_but_spaces(a, old[x], b, new[y])
+      a, b, i, j = a + #old[x], b + #new[y], x + 1, y + 1
+    end
+  end
+  self:stays(#self.old, #self.new, 0)
+end
+
+-- The replacements { at, gone, come } that make one text of another, from the first to the last, whose places are those of the old one; and
+-- whether some parts were compared by cheaper means.
+return function(old, new)
+  local comparison = setmetatable({ old = old, new = new, at = 0, to = 0, found = {}, work = { spent = 0, is_cut = false } }, Comparison)
+  comparison:compare()
+  return comparison.found, comparison.work.is_cut
+end

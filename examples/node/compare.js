@@ -1,0 +1,327 @@
+// Where two texts differ, so that what others write in between keeps its place: examples/COMPARE.md.
+import { isHigh, isLow } from './text.js';
+
+const STEPS = 128; // members that go or come, after which it looks back and goes on from where it is
+const WORK = [300_000, 1_500_000]; // steps of the search, after which STEPS is 16, and then 4
+const DEPTH = 12; // anchors within anchors
+const LINES = /[^\n]*\n|[^\n]+/g;
+const SPACE = '\\t-\\r ';
+const LETTER = '0-9A-Za-z_\\u00aa\\u00b5\\u00ba\\u00c0-\\u00d6\\u00d8-\\u00f6\\u00f8-\\u0dff\\u10a0-\\u1fff';
+const MARK =
+  '\\u0300-\\u036f\\u1ab0-\\u1aff\\u1dc0-\\u1dff\\u200c\\u200d\\u20d0-\\u20ff\\ufe00-\\ufe0f\\ufe20-\\ufe2f\\u{1f3fb}-\\u{1f3ff}';
+const TOKENS = new RegExp(`[${LETTER}][${LETTER}${MARK}]*|[^${SPACE}](?:[${MARK}]|(?<=\\u200d)[^${SPACE}])*`, 'gu');
+const JOINED = new RegExp(`[${MARK}]`, 'uy');
+const WORDS_AND_SPACES = new RegExp(`[${SPACE}]+|[^${SPACE}]+`, 'g');
+const isSpace = (unit) => unit === 32 || (unit >= 9 && unit <= 13);
+const linesOf = (text) => text.match(LINES) ?? [];
+const sizeOf = (parts, from, to) => {
+  let size = 0;
+  for (let k = from; k < to; k += 1) size += parts[k].length;
+  return size;
+};
+const stripped = (text) => {
+  let [from, to] = [0, text.length];
+  while (from < to && isSpace(text.charCodeAt(from))) from += 1;
+  while (to > from && isSpace(text.charCodeAt(to - 1))) to -= 1;
+  return { from, text: text.slice(from, to) };
+};
+const frontOf = (old, now) => {
+  const least = Math.min(old.length, now.length);
+  let front = 0;
+  while (front < least && old.charCodeAt(front) === now.charCodeAt(front)) front += 1;
+  return front;
+};
+
+/** The longest part of these pairs, which rise on the left, that rises on the right too. */
+function rising(pairs) {
+  const [tops, at, before] = [[], [], []];
+  pairs.forEach(([, j], k) => {
+    let [low, high] = [0, tops.length];
+    while (low < high) {
+      const middle = (low + high) >> 1;
+      if (tops[middle] < j) low = middle + 1;
+      else high = middle;
+    }
+    before.push(low > 0 ? at[low - 1] : -1);
+    tops[low] = j;
+    at[low] = k;
+  });
+  const found = [];
+  for (let k = at.at(-1) ?? -1; k >= 0; k = before[k]) found.push(pairs[k]);
+  return found.reverse();
+}
+
+/** Where members (or so many in a row) are equal that are once in each. */
+function anchorsOf(a, b, i, m, j, n, size) {
+  const [mine, other] = [[a, i, m], [b, j, n]].map(([list, from, to]) => {
+    const once = new Map();
+    for (let k = from; k + size <= to; k += 1) {
+      const key = size === 1 ? list[k] : list.slice(k, k + size).join();
+      once.set(key, once.has(key) ? -1 : k);
+    }
+    return once;
+  });
+  const pairs = [];
+  for (const [key, k] of mine) if (k >= 0 && (other.get(key) ?? -1) >= 0) pairs.push([k, other.get(key)]);
+  return rising(pairs);
+}
+
+/** The least members that go and come, by Myers' greedy search; if it takes more than so many steps, the way that got furthest. */
+function search(a, b, i, m, j, n, steps, work) {
+  const [wide, high, off] = [m - i, n - j, steps + 1];
+  const far = new Int32Array(2 * steps + 3);
+  const trace = [];
+  const comesAt = (was, base, k, d) => k === -d || (k !== d && was[base + k - 1] < was[base + k + 1]);
+  let [x, y, d, isDone] = [0, 0, 0, false];
+  for (; ; d += 1) {
+    trace.push(far.slice(off - d - 1, off + d + 2));
+    for (let k = -d; k <= d && !isDone; k += 2) {
+      x = comesAt(far, off, k, d) ? far[off + k + 1] : far[off + k - 1] + 1;
+      y = x - k;
+      while (x < wide && y < high && a[i + x] === b[j + y]) {
+        x += 1;
+        y += 1;
+      }
+      far[off + k] = x;
+      isDone = x >= wide && y >= high;
+    }
+    work.spent += d + 1;
+    if (isDone || d === steps) break;
+  }
+  if (!isDone) {
+    let best = -1;
+    for (let k = -steps; k <= steps; k += 2) {
+      const to = far[off + k];
+      if (to <= wide && to - k <= high && 2 * to - k > best) [best, x, y] = [2 * to - k, to, to - k];
+    }
+  }
+  const runs = [];
+  for (; d > 0; d -= 1) {
+    const [was, k] = [trace[d], x - y]; // was[d + 1 + k] is diagonal k
+    const comes = comesAt(was, d + 1, k, d);
+    const p = was[d + 1 + (comes ? k + 1 : k - 1)];
+    const start = comes ? p : p + 1;
+    if (x > start) runs.push([i + start, j + start - k, x - start]);
+    [x, y] = [p, p - (comes ? k + 1 : k - 1)];
+  }
+  if (x > 0) runs.push([i, j, x]);
+  return { isDone, runs: runs.reverse() };
+}
+
+/** Which members stay, as runs (place, place, count). */
+function runsOf(a, b, byAnchors, work) {
+  const found = [];
+  const todo = [[0, a.length, 0, b.length, 0]];
+  while (todo.length > 0) {
+    let [i, m, j, n, depth] = todo.pop();
+    if (depth < 0) {
+      found.push([i, j, m - i]);
+      continue;
+    }
+    let k = i;
+    for (; i < m && j < n && a[i] === b[j]; j += 1) i += 1;
+    if (i > k) found.push([k, j - i + k, i - k]);
+    k = m;
+    for (; m > i && n > j && a[m - 1] === b[n - 1]; n -= 1) m -= 1;
+    if (k > m) todo.push([m, k, n, n + k - m, -1]);
+    if (i === m || j === n) continue;
+    if (!byAnchors) {
+      const { isDone, runs } = search(a, b, i, m, j, n, 16, work);
+      if (isDone) {
+        for (const run of runs) found.push(run);
+        continue;
+      }
+    }
+    let anchors = [];
+    for (const size of byAnchors ? [1] : [4, 1]) if (depth < DEPTH && anchors.length === 0) anchors = anchorsOf(a, b, i, m, j, n, size);
+    if (anchors.length > 0) {
+      let end = [m, n];
+      for (const anchor of anchors.reverse()) {
+        todo.push([anchor[0], end[0], anchor[1], end[1], depth + 1]);
+        end = anchor;
+      }
+      todo.push([i, end[0], j, end[1], depth + 1]);
+      continue;
+    }
+    while (i < m && j < n) {
+      const result = search(a, b, i, m, j, n, work.spent < WORK[0] ? STEPS : work.spent < WORK[1] ? 16 : 4, work);
+      let { runs } = result;
+      if (result.isDone) {
+        for (const run of runs) found.push(run);
+        break;
+      }
+      work.isCut = true;
+      const reach = ([x, y, count]) => x + y + 2 * count - i - j;
+      let keep = runs.length;
+      while (keep > 0 && runs[keep - 1][2] < 3) keep -= 1; // what it ends with may be chance
+      if (keep > 0 && 2 * reach(runs[keep - 1]) > reach(runs.at(-1))) runs = runs.slice(0, keep);
+      for (const run of runs) found.push(run);
+      [i, j] = runs.length > 0 ? [runs.at(-1)[0] + runs.at(-1)[2], runs.at(-1)[1] + runs.at(-1)[2]] : [i + 1, j + 1];
+    }
+  }
+  return found;
+}
+
+/** Which members of two lists stay, as pairs of places that rise. What the other list doesn't have is left out first. */
+function align(old, now, byAnchors, work) {
+  const numbers = new Map(now.map((x, k) => [x, k]));
+  const olds = new Set(old);
+  const placesOf = (list, isThere) => list.map((_, k) => k).filter((k) => isThere(list[k]));
+  const places = [placesOf(old, (x) => numbers.has(x)), placesOf(now, (x) => olds.has(x))];
+  const [a, b] = [places[0].map((k) => numbers.get(old[k])), places[1].map((k) => numbers.get(now[k]))];
+  const pairs = [];
+  for (const [i, j, count] of runsOf(a, b, byAnchors, work)) {
+    for (let k = 0; k < count; k += 1) pairs.push([places[0][i + k], places[1][j + k]]);
+  }
+  return pairs;
+}
+
+/** Whether three of four lines (of 32 that it looks at) begin and end as the other one does, for half of the shorter. */
+function isLineByLine(old, now) {
+  const looks = Math.min(old.length, 32);
+  let alike = 0;
+  for (let k = 0; k < looks; k += 1) {
+    const at = Math.floor((k * old.length) / looks);
+    const [x, y] = [stripped(old[at]).text, stripped(now[at]).text];
+    const least = Math.min(x.length, y.length);
+    const front = frontOf(x, y);
+    let end = 0;
+    while (end < least - front && x[x.length - 1 - end] === y[y.length - 1 - end]) end += 1;
+    if (2 * (front + end) >= least) alike += 1;
+  }
+  return 4 * alike >= 3 * looks;
+}
+
+const isJoined = (text, at) => {
+  if (at <= 0 || at >= text.length) return false;
+  if (text[at - 1] === '\u200d' || (isLow(text.charCodeAt(at)) && isHigh(text.charCodeAt(at - 1)))) return true;
+  JOINED.lastIndex = at;
+  return JOINED.test(text);
+};
+
+class Comparison {
+  #at = 0; // what is before is done, in the old and in the new text
+  #to = 0;
+  found = [];
+  work = { spent: 0, isCut: false };
+
+  constructor(old, now) {
+    this.old = old;
+    this.now = now;
+  }
+
+  /** What goes and what comes, less what is equal at the front and at the end. */
+  #put(a, m, b, n) {
+    const { old, now } = this;
+    let [p, q, s, t] = [a, b, m, n];
+    while (p < m && q < n && old.charCodeAt(p) === now.charCodeAt(q)) [p, q] = [p + 1, q + 1];
+    if (p < m || q < n) while (p > a && (isJoined(old, p) || isJoined(now, q))) [p, q] = [p - 1, q - 1];
+    while (s > p && t > q && old.charCodeAt(s - 1) === now.charCodeAt(t - 1)) [s, t] = [s - 1, t - 1];
+    while (s < m && (isJoined(old, s) || isJoined(now, t))) [s, t] = [s + 1, t + 1];
+    if (s > p || t > q) this.found.push({ at: p, count: s - p, text: now.slice(q, t) });
+  }
+
+  /** Parts of both lists, one with one. */
+  #inProportion(a, old, b, now, parts, put) {
+    let [i, j] = [0, 0];
+    for (let k = 1; k <= parts; k += 1) {
+      const [p, q] = [Math.floor((k * old.length) / parts), Math.floor((k * now.length) / parts)];
+      const [m, n] = [a + sizeOf(old, i, p), b + sizeOf(now, j, q)];
+      put(a, m, b, n);
+      [i, j, a, b] = [p, q, m, n];
+    }
+  }
+
+  /** What has nothing in common: line with line, and word with word where there are as many; otherwise in proportion. */
+  #pair(a, m, b, n) {
+    const [gone, come] = [this.old.slice(a, m), this.now.slice(b, n)];
+    if (!stripped(gone).text || !stripped(come).text) {
+      this.#put(a, m, b, n);
+      return;
+    }
+    const [old, now] = [linesOf(gone), linesOf(come)];
+    this.#inProportion(a, old, b, now, Math.min(old.length, now.length), (...ends) => this.#pairWords(...ends));
+  }
+
+  #pairWords(a, m, b, n) {
+    const old = this.old.slice(a, m).match(WORDS_AND_SPACES);
+    const now = this.now.slice(b, n).match(WORDS_AND_SPACES);
+    const parts = old.length === now.length ? old.length : Math.max(1, Math.floor(Math.min(old.length, now.length) / 16));
+    this.#inProportion(a, old, b, now, parts, (...ends) => this.#put(...ends));
+  }
+
+  /** So many units stay; what is before them is done now. */
+  #stays(a, b, count) {
+    if (a > this.#at || b > this.#to) this.#pair(this.#at, a, this.#to, b);
+    [this.#at, this.#to] = [a + count, b + count];
+  }
+
+  #sameButSpaces(a, old, b, now) {
+    if (old === now) {
+      this.#stays(a, b, old.length);
+      return;
+    }
+    const [x, y] = [stripped(old), stripped(now)];
+    if (x.text && x.text === y.text) {
+      this.#stays(a + x.from, b + y.from, x.text.length);
+      return;
+    }
+    for (let p = 0, q = 0; ; ) {
+      while (p < old.length && isSpace(old.charCodeAt(p))) p += 1;
+      while (q < now.length && isSpace(now.charCodeAt(q))) q += 1;
+      let size = 0;
+      while (p + size < old.length && q + size < now.length && !isSpace(old.charCodeAt(p + size)) && !isSpace(now.charCodeAt(q + size))) size += 1;
+      if (size === 0) return;
+      this.#stays(a + p, b + q, size);
+      [p, q] = [p + size, q + size];
+    }
+  }
+
+  /** Lines that aren't the same: by words, whatever is between them. */
+  #words(a, gone, b, come) {
+    let front = frontOf(gone, come);
+    while (front > 0 && !isSpace(gone.charCodeAt(front - 1))) front -= 1;
+    this.#stays(a, b, front);
+    const sides = [gone, come].map((text) => [...text.slice(front).matchAll(TOKENS)]);
+    const texts = sides.map((side) => side.map(([text]) => text));
+    if (texts[0].length === 0 || texts[1].length === 0) return;
+    const pairs = align(...texts, false, this.work);
+    let same = 0;
+    for (const [i] of pairs) same += texts[0][i].length;
+    if (5 * same < Math.min(...texts.map((side) => sizeOf(side, 0, side.length)))) return;
+    for (const [i, j] of pairs) this.#stays(a + front + sides[0][i].index, b + front + sides[1][j].index, texts[0][i].length);
+  }
+
+  #changedLines(a, old, b, now) {
+    const [olds, nows] = old.length === now.length && isLineByLine(old, now) ? [old, now] : [[old.join('')], [now.join('')]];
+    olds.forEach((line, k) => {
+      this.#words(a, line, b, nows[k]);
+      a += line.length;
+      b += nows[k].length;
+    });
+  }
+
+  compare() {
+    const [old, now] = [linesOf(this.old), linesOf(this.now)];
+    const [olds, nows] = [old, now].map((lines) => lines.map((line) => line.replace(/[\t-\r ]+/g, '')));
+    let [a, b, i, j] = [0, 0, 0, 0];
+    for (const [x, y] of [...align(olds, nows, true, this.work), [old.length, now.length]]) {
+      if (x > i && y > j) this.#changedLines(a, old.slice(i, x), b, now.slice(j, y));
+      if (x === old.length) break;
+      const [p, q] = [a + sizeOf(old, i, x), b + sizeOf(now, j, y)];
+      this.#sameButSpaces(p, old[x], q, now[y]);
+      [a, b, i, j] = [p + old[x].length, q + now[y].length, x + 1, y + 1];
+    }
+    this.#stays(this.old.length, this.now.length, 0);
+    return this;
+  }
+}
+
+/**
+ * The replacements `{ at, count, text }` that make one string of another, from the first to the last, in units of the old one; and whether
+ * some parts were compared by cheaper means.
+ */
+export function compared(old, now) {
+  const { found, work } = new Comparison(old, now).compare();
+  return { found, isCut: work.isCut };
+}

@@ -1,0 +1,328 @@
+"""Where two texts differ, so that what others write in between keeps its place: examples/COMPARE.md."""
+import re
+from bisect import bisect_left
+from typing import Dict, List, NamedTuple, Sequence, Tuple
+
+STEPS = 128                 # members that go or come, after which it looks back and goes on from where it is
+WORK = (300_000, 1_500_000)   # steps of the search, after which STEPS is 16, and then 4
+DEPTH = 12                  # anchors within anchors
+SPACES = "\t\n\v\f\r "
+LINE = re.compile(r"[^\n]*\n|[^\n]+")
+WORD = re.compile(r"[^\t-\r ]+")
+LETTER = "0-9A-Za-z_\u00aa\u00b5\u00ba\u00c0-\u00d6\u00d8-\u00f6\u00f8-\u0dff\u10a0-\u1fff"
+MARK = "\u0300-\u036f\u1ab0-\u1aff\u1dc0-\u1dff\u200c\u200d\u20d0-\u20ff\ufe00-\ufe0f\ufe20-\ufe2f\U0001f3fb-\U0001f3ff"
+TOKEN = re.compile(f"[{LETTER}][{LETTER}{MARK}]*|[^\t-\r ](?:[{MARK}]|(?<=\u200d)[^\t-\r ])*")
+JOINED = re.compile(f"[{MARK}]")
+Run = Tuple[int, int, int]
+
+
+class Replacement(NamedTuple):
+    """At `at` of the old text, `count` characters go and `text` comes."""
+    at: int
+    count: int
+    text: str
+
+
+class _Work:
+    spent = 0               # steps of the search
+    cut = False             # whether it went on by cheaper means
+
+    def steps(self) -> int:
+        return STEPS if self.spent < WORK[0] else 16 if self.spent < WORK[1] else 4
+
+
+def _rising(pairs: List[Tuple[int, int]]) -> List[Tuple[int, int]]:
+    """The longest part of these pairs, which rise on the left, that rises on the right too."""
+    tops: List[int] = []
+    at: List[int] = []
+    before: List[int] = []
+    for k, (_, j) in enumerate(pairs):
+        p = bisect_left(tops, j)
+        before.append(at[p - 1] if p else -1)
+        if p == len(tops):
+            tops.append(j)
+            at.append(k)
+        else:
+            tops[p], at[p] = j, k
+    found: List[Tuple[int, int]] = []
+    k = at[-1] if at else -1
+    while k >= 0:
+        found.append(pairs[k])
+        k = before[k]
+    return found[::-1]
+
+
+def _anchors(a: Sequence[int], b: Sequence[int], i: int, m: int, j: int, n: int, size: int) -> List[Tuple[int, int]]:
+    """Where members (or so many in a row) are equal that are once in each."""
+    sides: List[Dict[object, int]] = []
+    for s, low, high in ((a, i, m), (b, j, n)):
+        once: Dict[object, int] = {}
+        for k in range(low, high - size + 1):
+            key = s[k] if size == 1 else tuple(s[k:k + size])
+            once[key] = -1 if key in once else k
+        sides.append(once)
+    mine, other = sides
+    return _rising([(k, other[key]) for key, k in mine.items() if k >= 0 and other.get(key, -1) >= 0])
+
+
+def _search(a: Sequence[int], b: Sequence[int], i: int, m: int, j: int, n: int, steps: int, work: _Work) -> Tuple[bool, List[Run]]:
+    """The least members that go and come, by Myers' greedy search; if it takes more than so many steps, the way that got furthest."""
+    m, n, off = m - i, n - j, steps + 1
+    far = [0] * (2 * steps + 3)
+    trace: List[List[int]] = []
+    x = y = d = 0
+    done = False
+    for d in range(steps + 1):
+        trace.append(far[off - d - 1:off + d + 2])
+        for k in range(-d, d + 1, 2):
+            x = far[off + k + 1] if k == -d or (k != d and far[off + k - 1] < far[off + k + 1]) else far[off + k - 1] + 1
+            y = x - k
+            while x < m and y < n and a[i + x] == b[j + y]:
+                x += 1
+                y += 1
+            far[off + k] = x
+            if x >= m and y >= n:
+                done = True
+                break
+        work.spent += d + 1
+        if done:
+            break
+    if not done:
+        best = -1
+        for k in range(-steps, steps + 1, 2):
+            if far[off + k] <= m and far[off + k] - k <= n and 2 * far[off + k] - k > best:
+                best, x, y = 2 * far[off + k] - k, far[off + k], far[off + k] - k
+    runs: List[Run] = []
+    while d > 0:
+        was, k = trace[d], x - y                        # was[d + 1 + k] is diagonal k
+        comes = k == -d or (k != d and was[d + k] < was[d + k + 2])
+        p = was[d + k + 2] if comes else was[d + k]
+        start = p if comes else p + 1
+        if x > start:
+            runs.append((i + start, j + start - k, x - start))
+        x, y = p, p - (k + 1 if comes else k - 1)
+        d -= 1
+    if x > 0:
+        runs.append((i, j, x))
+    return done, runs[::-1]
+
+
+def _align(old: List[str], new: List[str], by_anchors: bool, work: _Work) -> List[Tuple[int, int]]:
+    """Which members of two lists stay, as pairs of places that rise. What the other list doesn't have is left out first."""
+    numbers = {x: k for k, x in enumerate(new)}
+    both = set(old).intersection(numbers)
+    places = [[k for k, x in enumerate(side) if x in both] for side in (old, new)]
+    a, b = [[numbers[side[k]] for k in kept] for side, kept in zip((old, new), places)]
+    return [(places[0][i + k], places[1][j + k]) for i, j, count in _runs(a, b, by_anchors, work) for k in range(count)]
+
+
+def _runs(a: Sequence[int], b: Sequence[int], by_anchors: bool, work: _Work) -> List[Run]:
+    """Which members stay, as runs (place, place, count)."""
+    found: List[Run] = []
+    todo = [(0, len(a), 0, len(b), 0)]
+    while todo:
+        i, m, j, n, depth = todo.pop()
+        if depth < 0:
+            found.append((i, j, m - i))
+            continue
+        k = i
+        while i < m and j < n and a[i] == b[j]:
+            i += 1
+            j += 1
+        if i > k:
+            found.append((k, j - i + k, i - k))
+        k = m
+        while m > i and n > j and a[m - 1] == b[n - 1]:
+            m -= 1
+            n -= 1
+        if k > m:
+            todo.append((m, k, n, n + k - m, -1))
+        if i == m or j == n:
+            continue
+        if not by_anchors:
+            done, runs = _search(a, b, i, m, j, n, 16, work)
+            if done:
+                found += runs
+                continue
+        if depth < DEPTH:
+            anchors: List[Tuple[int, int]] = []
+            for size in ((1,) if by_anchors else (4, 1)):
+                anchors = anchors or _anchors(a, b, i, m, j, n, size)
+            if anchors:
+                ends = anchors[1:] + [(m, n)]
+                for (x, y), (p, q) in zip(reversed(anchors), reversed(ends)):
+                    todo.append((x, p, y, q, depth + 1))
+                todo.append((i, anchors[0][0], j, anchors[0][1], depth + 1))
+                continue
+        while i < m and j < n:
+            done, runs = _search(a, b, i, m, j, n, work.steps(), work)
+            if done:
+                found += runs
+                break
+            work.cut = True
+            end = runs[-1][0] + runs[-1][1] + 2 * runs[-1][2] if runs else 0
+            keep = len(runs)
+            while keep and runs[keep - 1][2] < 3:       # what it ends with may be chance
+                keep -= 1
+            if keep and 2 * (runs[keep - 1][0] + runs[keep - 1][1] - i - j) > end - i - j:
+                runs = runs[:keep]
+            if not runs:
+                i, j = i + 1, j + 1
+                continue
+            found += runs
+            i, j = runs[-1][0] + runs[-1][2], runs[-1][1] + runs[-1][2]
+    return found
+
+
+def _front(old: str, new: str) -> int:
+    """How many characters are equal at the front: by halving."""
+    low, high = 0, min(len(old), len(new))
+    while low < high:
+        middle = (low + high + 1) // 2
+        if old[low:middle] == new[low:middle]:
+            low = middle
+        else:
+            high = middle - 1
+    return low
+
+
+def is_line_by_line(old: List[str], new: List[str]) -> bool:
+    """Whether three of four lines (of 32 that it looks at) begin and end as the other one does, for half of the shorter."""
+    looks = min(len(old), 32)
+    alike = 0
+    for k in range(looks):
+        x, y = old[k * len(old) // looks].strip(SPACES), new[k * len(old) // looks].strip(SPACES)
+        front = _front(x, y)
+        end = _front(x[front:][::-1], y[front:][::-1])
+        alike += 2 * (front + end) >= min(len(x), len(y))
+    return 4 * alike >= 3 * looks
+
+
+class _Comparison:
+    def __init__(self, old: str, new: str) -> None:
+        self.old, self.new, self.work = old, new, _Work()
+        self.at = self.to = 0                           # what is before is done, in the old and in the new text
+        self.found: List[Replacement] = []
+
+    def is_joined(self, text: str, at: int) -> bool:
+        return 0 < at < len(text) and (bool(JOINED.match(text, at)) or text[at - 1] == "\u200d")
+
+    def put(self, a: int, m: int, b: int, n: int) -> None:
+        """What goes and what comes, less what is equal at the front and at the end."""
+        if a == m or b == n:
+            if a < m or b < n:
+                self.found.append(Replacement(a, m - a, self.new[b:n]))
+            return
+        old, new = self.old, self.new
+        p, q = a, b
+        while p < m and q < n and old[p] == new[q]:
+            p, q = p + 1, q + 1
+        while p > a and (self.is_joined(old, p) or self.is_joined(new, q)):
+            p, q = p - 1, q - 1
+        m0 = m
+        while m > p and n > q and old[m - 1] == new[n - 1]:
+            m, n = m - 1, n - 1
+        while m < m0 and (self.is_joined(old, m) or self.is_joined(new, n)):
+            m, n = m + 1, n + 1
+        if m > p or n > q:
+            self.found.append(Replacement(p, m - p, new[q:n]))
+
+    def in_proportion(self, a: int, old: List[str], b: int, new: List[str], parts: int, put) -> None:
+        """Parts of both lists, one with one."""
+        i = j = 0
+        for k in range(1, parts + 1):
+            p, q = k * len(old) // parts, k * len(new) // parts
+            m, n = a + sum(map(len, old[i:p])), b + sum(map(len, new[j:q]))
+            put(a, m, b, n)
+            i, j, a, b = p, q, m, n
+
+    def pair_words(self, a: int, m: int, b: int, n: int) -> None:
+        old, new = re.findall(r"[\t-\r ]+|[^\t-\r ]+", self.old[a:m]), re.findall(r"[\t-\r ]+|[^\t-\r ]+", self.new[b:n])
+        if len(old) == len(new):
+            parts = len(old)
+        else:
+            parts = max(1, min(len(old), len(new)) // 16)
+        self.in_proportion(a, old, b, new, parts, self.put)
+
+    def pair(self, a: int, m: int, b: int, n: int) -> None:
+        """What has nothing in common: line with line, and word with word where there are as many; otherwise in proportion."""
+        if a == m or b == n or not WORD.search(self.old, a, m) or not WORD.search(self.new, b, n):
+            self.put(a, m, b, n)
+            return
+        old, new = LINE.findall(self.old, a, m), LINE.findall(self.new, b, n)
+        self.in_proportion(a, old, b, new, min(len(old), len(new)), self.pair_words)
+
+    def stays(self, a: int, b: int, count: int) -> None:
+        """So many characters stay; what is before them is done now."""
+        if a > self.at or b > self.to:
+            self.pair(self.at, a, self.to, b)
+        self.at, self.to = a + count, b + count
+
+    def same_but_spaces(self, a: int, old: str, b: int, new: str) -> None:
+        if old == new:
+            self.stays(a, b, len(old))
+            return
+        within = old.strip(SPACES)
+        if within and within == new.strip(SPACES):
+            self.stays(a + old.index(within), b + new.index(within), len(within))
+            return
+        p = q = 0
+        while p < len(old) and q < len(new):
+            while p < len(old) and old[p] in SPACES:
+                p += 1
+            while q < len(new) and new[q] in SPACES:
+                q += 1
+            x, y = WORD.match(old, p), WORD.match(new, q)
+            if x and y:
+                size = min(x.end() - p, y.end() - q)
+                self.stays(a + p, b + q, size)
+                p, q = p + size, q + size
+
+    def words(self, a: int, m: int, b: int, n: int) -> None:
+        """Lines that aren't the same: by words, whatever is between them."""
+        front = _front(self.old[a:m], self.new[b:n])
+        while front and self.old[a + front - 1] not in SPACES:
+            front -= 1
+        self.stays(a, b, front)
+        a, b = a + front, b + front
+        sides = [list(TOKEN.finditer(s, x, y)) for s, x, y in ((self.old, a, m), (self.new, b, n))]
+        texts = [[x.group() for x in side] for side in sides]
+        if not texts[0] or not texts[1]:
+            return
+        pairs = _align(*texts, False, self.work)
+        same = sum(len(texts[0][i]) for i, _ in pairs)
+        if 5 * same < min(sum(map(len, texts[0])), sum(map(len, texts[1]))):
+            return
+        for i, j in pairs:
+            self.stays(sides[0][i].start(), sides[1][j].start(), len(texts[0][i]))
+
+    def changed_lines(self, a: int, old: List[str], b: int, new: List[str]) -> None:
+        if len(old) != len(new) or not is_line_by_line(old, new):
+            old, new = ["".join(old)], ["".join(new)]
+        for x, y in zip(old, new):
+            self.words(a, a + len(x), b, b + len(y))
+            a, b = a + len(x), b + len(y)
+
+    def compare(self) -> None:
+        old, new = LINE.findall(self.old), LINE.findall(self.new)
+        keys = [["".join(x.split()) for x in side] for side in (old, new)]
+        a = b = i = j = 0
+        for x, y in _align(*keys, True, self.work) + [(len(old), len(new))]:
+            p, q = a + sum(map(len, old[i:x])), b + sum(map(len, new[j:y]))
+            if x > i and y > j:
+                self.changed_lines(a, old[i:x], b, new[j:y])
+            if x < len(old):
+                self.same_but_spaces(p, old[x], q, new[y])
+                a, b, i, j = p + len(old[x]), q + len(new[y]), x + 1, y + 1
+        self.stays(len(self.old), len(self.new), 0)
+
+
+def compared(old: str, new: str) -> Tuple[List[Replacement], bool]:
+    """The replacements, from the first to the last, whose places are those of the old text; and whether some parts were compared by cheaper means."""
+    found = _Comparison(old, new)
+    found.compare()
+    return found.found, found.work.cut
+
+
+def replacements(old: str, new: str) -> List[Replacement]:
+    return compared(old, new)[0]
