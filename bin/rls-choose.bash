@@ -14,9 +14,20 @@ version() {
     built_version
   elif has_release; then
     check_release
-    echo "rls ${release[version]}, the released program, proved and built from commit ${release[commit]:0:12} of ${release[date]} with ${release[kit]}$(if is_of_release; then echo ', as the sources here are'; else echo "; the sources here, of commit $(described), are others"; fi)"
+    echo "rls ${release[version]}, the released program, proved and built from commit ${release[commit]:0:12} of ${release[date]} with ${release[kit]}$(of_sources)"
   else
     echo "rls of commit $(described), not built yet"
+  fi
+}
+
+# What the sources here are beside the released program. A package has none.
+of_sources() {
+  if ! has_sources; then
+    return
+  elif is_of_release; then
+    echo ', as the sources here are'
+  else
+    echo "; the sources here, of commit $(described), are others"
   fi
 }
 
@@ -46,9 +57,12 @@ named_version() {
   fi
 }
 
+has_sources() { [ -f "$top/crates.txt" ]; }
+
 # The content of the sources, which decides; it is summed once in a command.
 here=
 sources_here() {
+  has_sources || return 1
   [ -n "$here" ] || here=$(content "$top")
 }
 
@@ -75,6 +89,10 @@ note() {
 }
 
 build_if_due() {
+  has_sources || {
+    say "there are no sources in $top to build from: \`rls build\` is for a checkout."
+    return "$NOT_BUILT"
+  }
   [ -z "${RLS_REBUILD:-}" ] && is_current && return
   . "$top/bin/rls-build.bash"
   build
@@ -114,9 +132,9 @@ choose_release() {
   check_release
   of="this is the released program ${release[version]}, proved and built from commit ${release[commit]:0:7}"
   if ! mkdir -p "$built" 2>/dev/null || ! [ -w "$built" ]; then return; fi
-  if ! is_of_release; then
+  if has_sources && ! is_of_release; then
     say "$of, and not from the sources that are here now; \`rls build\` proves and builds these."
-  elif [ -t 2 ]; then
+  elif [ -t 2 ] && has_sources; then
     say "$of; \`rls build\` proves and builds these sources here."
   else
     note untold
