@@ -102,9 +102,10 @@ explain_refused() {
   say "line $1${shown:+ is \`$shown\`}: $why. Nothing was stored."
 }
 
-# What comes after the usage line of the program, which doesn't know the commands of the launcher.
+# What comes before the usage line of the program, which doesn't know the commands of the launcher.
 explain_words() {
-  case ${1-} in
+  local part=" $1"
+  case $1 in
     new) say 'three numbers come after it: rls new GROUP ME MEMBERS' ;;
     restart) say 'three numbers come after it, and the new folder if you want: rls restart GROUP ME MEMBERS FOLDER' ;;
     edit) say 'a script comes from standard input: rls edit < SCRIPT; or: rls edit --text FILE' ;;
@@ -116,11 +117,12 @@ explain_words() {
     check) say 'at most one file comes after it: rls check FILE' ;;
     text | ids | stat | leave | session | build) say 'nothing comes after it.' ;;
     *)
-      [ -z "${1-}" ] || say "there is no command \`$1\`."
-      say 'the commands are: new, edit, text, send, take, head, stat, check, ids, session, leave, retire, restart, trial, build, help and --version.'
+      part=
+      [ -z "$1" ] || say "there is no command \`$1\`."
+      say 'the commands are: share, join, sync, who, where, drop, new, edit, text, send, take, head, stat, check, ids, session, leave, retire, restart, trial, build, help and --version.'
       ;;
   esac
-  say "\`rls help\` explains the words."
+  say "\`rls help$part\` explains the words."
 }
 
 # Says what makes the stored file shorter, which has this many bytes now.

@@ -18,6 +18,13 @@ expect 'a member by name' 1 "$(cd ben && status_of "$rls" send ada)"
 expect 'a member by name: what to write' yes "$(says 'rls send TO > MESSAGE')"
 expect 'help after a command' 0 "$(cd ben && status_of "$rls" take --help)"
 expect 'help fits a terminal of 80 columns' '' "$("$rls" help | awk 'length($0) > 79')"
+expect 'help fits a screen' yes "$([ "$("$rls" help | wc -l)" -le 23 ] && echo yes)"
+commands=(share join sync who where drop new edit text ids stat check send take head leave retire restart trial session build)
+expect 'help names every command' '' "$(for word in "${commands[@]}"; do "$rls" help | grep -qw "$word" || echo "$word"; done)"
+expect 'help of every command, in 80 columns' '' "$(for word in "${commands[@]}" help version status; do "$rls" help "$word" | awk -v word="$word" 'length($0) > 79 { print word } END { if (!NR) print word }'; done)"
+expect 'help of a command' 'rls send TO > MESSAGE' "$("$rls" help send | head -1)"
+expect 'help after a command is about it' 'rls take < MESSAGE' "$("$rls" take --help | head -1)"
+expect 'help of what is no command' 1 "$(status_of "$rls" help nothing)"
 
 # --- What a line of the program means.
 fails() {
@@ -55,6 +62,9 @@ fails 'a tab between the parts' 4 'one space, and no tab' script 'd 0\t1\n'
 fails 'a number with a zero in a script' 4 'a zero or a sign in front' script 'i 00 x\n'
 fails 'a number with a sign in a script' 4 'a zero or a sign in front' script 'd 0 -1\n'
 fails 'no numbers' 1 'three numbers' "$rls" new seven 0 4
+status_of "$rls" send ada >/dev/null
+expect 'wrong words: what is wrong comes first' 'rls: TO is the number of a member: rls send TO > MESSAGE' "$(head -1 "$room/err")"
+expect 'wrong words: the line of the program is the last' 'usage: new GROUP' "$(tail -1 "$room/err" | cut -c 1-16)"
 fails 'no such command' 1 'there is no command `status`' "$rls" status
 fails 'no such command, and which there are' 1 'new, edit, text, send, take, head, stat, check, ids, session, leave, retire, restart' "$rls" undo
 fails 'one number in place of three' 1 'rls new GROUP ME MEMBERS' "$rls" new 7
