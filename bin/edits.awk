@@ -57,38 +57,60 @@ function is_joined(s, at) {
   return (at > 2 && substr(s, at - 2, 3) == joiner) || (substr(s, at + 1, 1) >= "\300" && is_mark(character(s, at)))
 }
 
-# The words of a part of a text, and its other characters but spaces, each with the marks after it; and where each begins.
-function tokens_of(s, at, end, tokens, starts,  count, from, c, is_word, next_one) {
-  while (at < end) {
-    if (space[substr(s, at + 1, 1)]) { at++; continue }
+# The words of a part of a text, and its other characters but spaces, each with the marks after it; and where each begins. A part that `split`
+# finds between spaces is one word most often, so it isn't looked at by characters then.
+function tokens_of(s, at, end, tokens, starts,  count, parts, part, k) {
+  part = split(substr(s, at + 1, end - at), parts, /[\t-\r ]+/)
+  for (k = 1; k <= part; k++) {
+    if (parts[k] == "") continue
+    while (space[substr(s, at + 1, 1)]) at++
+    if (parts[k] ~ /[^0-9A-Z_a-z]/) count = tokens_in(parts[k], at, tokens, starts, count)
+    else { tokens[++count] = parts[k]; starts[count] = at }
+    at += length(parts[k])
+  }
+  return count + 0
+}
+
+# The same for a part without spaces, which begins at a place.
+function tokens_in(s, begin, tokens, starts, count,  at, end, from, c, is_word, next_one) {
+  if (match(s, /^[0-9A-Z_a-z]+[!-~]$/)) {
+    tokens[++count] = substr(s, 1, RLENGTH - 1); starts[count] = begin
+    tokens[++count] = substr(s, RLENGTH); starts[count] = begin + RLENGTH - 1
+    return count
+  }
+  end = length(s)
+  for (at = 0; at < end;) {
     from = at
     c = character(s, at)
     at += size
     is_word = is_letter(c)
-    while (at < end && !space[substr(s, at + 1, 1)]) {
+    while (at < end) {
       next_one = character(s, at)
       if (!((c == 8205 && !is_word) || is_mark(next_one) || (is_word && is_letter(next_one)))) break
       c = next_one
       at += size
     }
     tokens[++count] = substr(s, from + 1, at - from)
-    starts[count] = from
+    starts[count] = begin + from
   }
-  return count + 0
+  return count
 }
 
-# Where members (or so many in a row) are equal that are once in each; of these the longest part that rises in both, the last first, in ax and ay.
-function anchors(i, m, j, n, many,  k, key, once, other, tops, at, before, x, y, count, low, high, middle, length_of) {
-  for (k = j; k + many <= n; k++) {
-    key = many == 1 ? b[k] : b[k] "," b[k + 1] "," b[k + 2] "," b[k + 3]
-    if (key in other) other[key] = -1; else other[key] = k
+# Four members in a row as one number, from each place on where there are four.
+function rows_of_four(u, size_, rows,  k, key) {
+  for (k = 0; k + 4 <= size_; k++) {
+    key = u[k] "," u[k + 1] "," u[k + 2] "," u[k + 3]
+    if (!(key in row_of)) row_of[key] = ++row_count
+    rows[k] = row_of[key]
   }
-  for (k = i; k + many <= m; k++) {
-    key = many == 1 ? a[k] : a[k] "," a[k + 1] "," a[k + 2] "," a[k + 3]
-    if (key in once) once[key] = -1; else once[key] = k
-  }
-  for (k = i; k + many <= m; k++) {
-    key = many == 1 ? a[k] : a[k] "," a[k + 1] "," a[k + 2] "," a[k + 3]
+}
+
+# Where members of two lists are equal that are once in each; of these the longest part that rises in both, the last first, in ax and ay.
+function anchors(a, i, m, b, j, n,  k, key, once, other, tops, at, before, x, y, count, low, high, middle, length_of) {
+  for (k = j; k < n; k++) if (b[k] in other) other[b[k]] = -1; else other[b[k]] = k
+  for (k = i; k < m; k++) if (a[k] in once) once[a[k]] = -1; else once[a[k]] = k
+  for (k = i; k < m; k++) {
+    key = a[k]
     if (once[key] != k || !(key in other) || other[key] < 0) continue
     x[++count] = k
     y[count] = other[key]
@@ -148,14 +170,14 @@ function keep_runs(first,  k) { for (k = runs; k >= first; k--) keep(rx[k], ry[k
 function push(i, m, j, n, depth) { top++; ti[top] = i; tm[top] = m; tj[top] = j; tn[top] = n; td[top] = depth }
 
 # Which members of two lists, which count from 1, stay: px and py, of which there are `pairs`. What the other list doesn't have is left out first.
-function align(old, olds, new, news, by_anchors,  numbers, is_old, k, i, m, j, n, depth, done, count, first, p, q, steps) {
+function align(old, olds, new, news, by_anchors,  numbers, is_old, k, i, m, j, n, depth, count, first, p, q, steps, are_rows, olds_left, news_left, a4, b4) {
   delete a; delete b
   for (k = 1; k <= news; k++) numbers[new[k]] = k
   for (k = 1; k <= olds; k++) is_old[old[k]] = 1
   for (k = 1; k <= olds; k++) if (old[k] in numbers) { a[p + 0] = numbers[old[k]]; from[p++] = k }
   for (k = 1; k <= news; k++) if (new[k] in is_old) { b[q + 0] = numbers[new[k]]; to[q++] = k }
   pairs = top = 0
-  push(0, p + 0, 0, q + 0, 0)
+  push(0, olds_left = p + 0, 0, news_left = q + 0, 0)
   while (top > 0) {
     i = ti[top]; m = tm[top]; j = tj[top]; n = tn[top]; depth = td[top--]
     if (depth < 0) { keep(i, j, m - i); continue }
@@ -166,7 +188,11 @@ function align(old, olds, new, news, by_anchors,  numbers, is_old, k, i, m, j, n
     if (i == m || j == n) continue
     if (!by_anchors && search(i, m, j, n, 16)) { keep_runs(1); continue }
     count = 0
-    if (depth < 12) { if (!by_anchors) count = anchors(i, m, j, n, 4); if (!count) count = anchors(i, m, j, n, 1) }
+    if (depth < 12) {
+      if (!by_anchors && !are_rows) { are_rows = 1; rows_of_four(a, olds_left, a4); rows_of_four(b, news_left, b4) }
+      if (!by_anchors) count = anchors(a4, i, m - 3, b4, j, n - 3)
+      if (!count) count = anchors(a, i, m, b, j, n)
+    }
     if (count) {
       p = m; q = n
       for (k = 1; k <= count; k++) { push(ax[k], p, ay[k], q, depth + 1); p = ax[k]; q = ay[k] }
@@ -215,7 +241,7 @@ function ends_of(s, at, end, by_lines, ends,  count, is_in) {
 
 # What has nothing in common: line with line, and word with word where there are as many; otherwise in proportion.
 function pair(p, m, q, n, by_lines,  olds, news, x, y, parts, k, s, t) {
-  if (by_lines && (p == m || q == n || is_blank(OLD, p, m) || is_blank(NEW, q, n))) { put(p, m, q, n); return }
+  if (by_lines && is_one_piece(substr(OLD, p + 1, m - p), substr(NEW, q + 1, n - q))) { put(p, m, q, n); return }
   olds = ends_of(OLD, p, m, by_lines, x)
   news = ends_of(NEW, q, n, by_lines, y)
   parts = least(olds, news)
@@ -227,14 +253,12 @@ function pair(p, m, q, n, by_lines,  olds, news, x, y, parts, k, s, t) {
   }
 }
 
-function is_blank(s, at, end) {
-  for (; at < end; at++) if (!space[substr(s, at + 1, 1)]) return 0
-  return 1
-}
+# Whether there is nothing to pair: one side has nothing but spaces, or both have none.
+function is_one_piece(gone, come) { return gone !~ /[^\t-\r ]/ || come !~ /[^\t-\r ]/ || (gone !~ /[\t-\r ]/ && come !~ /[\t-\r ]/) }
 
 # So many bytes stay; what is before them is done now.
 function stays(p, q, count) {
-  if (p > done_old || q > done_new) pair(done_old, p, done_new, q, 1)
+  if (substr(OLD, done_old + 1, p - done_old) != substr(NEW, done_new + 1, q - done_new)) pair(done_old, p, done_new, q, 1)
   done_old = p + count
   done_new = q + count
 }
@@ -272,14 +296,30 @@ function front_of(s, t,  low, high, middle) {
   return low + 0
 }
 
-# Lines that aren't the same: by words, whatever is between them.
-function words(p, gone, q, come,  front, x, y, u, v, olds, news, k, same, all_old, all_new) {
-  front = front_of(gone, come)
-  while (front > 0 && !space[substr(gone, front, 1)]) front--
+# The same for the end, of at most so many bytes.
+function tail_of(s, t, most,  low, middle, m, n) {
+  m = length(s); n = length(t)
+  for (low = 0; low < most;) {
+    middle = int((low + most + 1) / 2)
+    if (substr(s, m - middle + 1, middle - low) == substr(t, n - middle + 1, middle - low)) low = middle; else most = middle - 1
+  }
+  return low
+}
+
+# Lines that aren't the same: by words, whatever is between them. The equal front and the equal end stay, back or on to a space.
+function words(p, gone, q, come,  front, tail, m, n) {
+  m = length(gone); n = length(come)
+  for (front = front_of(gone, come); front > 0 && !space[substr(gone, front, 1)]; front--);
+  for (tail = tail_of(gone, come, least(m, n) - front); tail > 0 && !space[substr(gone, m - tail + 1, 1)]; tail--);
   stays(p, q, front)
-  olds = tokens_of(gone, front, length(gone), x, u)
-  news = tokens_of(come, front, length(come), y, v)
-  if (!olds || !news) return
+  by_words(p + front, substr(gone, front + 1, m - front - tail), q + front, substr(come, front + 1, n - front - tail))
+  stays(p + m - tail, q + n - tail, tail)
+}
+
+function by_words(p, gone, q, come,  x, y, u, v, olds, news, k, same, all_old, all_new) {
+  olds = tokens_of(gone, 0, length(gone), x, u)
+  news = tokens_of(come, 0, length(come), y, v)
+  if (!olds || !news || (olds == 1 && news == 1)) return
   align(x, olds, y, news, 0)
   for (k = 1; k <= pairs; k++) same += length(x[px[k]])
   for (k = 1; k <= olds; k++) all_old += length(x[k])
@@ -289,15 +329,14 @@ function words(p, gone, q, come,  front, x, y, u, v, olds, news, k, same, all_ol
 }
 
 # Whether three of four lines (of 32 that it looks at) begin and end as the other one does, for half of the shorter.
-function is_line_by_line(i, j, count,  looks, k, at, x, y, front, tail, alike, most) {
+function is_line_by_line(i, j, count,  looks, k, at, x, y, front, alike, most) {
   looks = least(count, 32)
   for (k = 0; k < looks; k++) {
     at = int(k * count / looks)
     x = stripped(old[i + at]); y = stripped(new[j + at])
     front = front_of(x, y)
     most = least(length(x), length(y)) - front
-    for (tail = 0; tail < most && substr(x, length(x) - tail, 1) == substr(y, length(y) - tail, 1); tail++);
-    if (2 * (front + tail) >= most + front) alike++
+    if (2 * (front + tail_of(x, y, most)) >= most + front) alike++
   }
   return 4 * alike >= 3 * looks
 }

@@ -32,6 +32,16 @@ const frontOf = (old, now) => {
   return front;
 };
 
+const endOf = (old, now, most) => {
+  let end = 0;
+  while (end < most && old.charCodeAt(old.length - 1 - end) === now.charCodeAt(now.length - 1 - end)) end += 1;
+  return end;
+};
+const hasSpace = (text, from, to) => {
+  for (let k = from; k < to; k += 1) if (isSpace(text.charCodeAt(k))) return true;
+  return false;
+};
+
 /** The longest part of these pairs, which rise on the left, that rises on the right too. */
 function rising(pairs) {
   const [tops, at, before] = [[], [], []];
@@ -51,19 +61,56 @@ function rising(pairs) {
   return found.reverse();
 }
 
-/** Where members (or so many in a row) are equal that are once in each. */
-function anchorsOf(a, b, i, m, j, n, size) {
-  const [mine, other] = [[a, i, m], [b, j, n]].map(([list, from, to]) => {
-    const once = new Map();
-    for (let k = from; k + size <= to; k += 1) {
-      const key = size === 1 ? list[k] : list.slice(k, k + size).join();
-      once.set(key, once.has(key) ? -1 : k);
-    }
-    return once;
-  });
-  const pairs = [];
-  for (const [key, k] of mine) if (k >= 0 && (other.get(key) ?? -1) >= 0) pairs.push([k, other.get(key)]);
-  return rising(pairs);
+/** Four members in a row of each list as one number, from each place on where there are four; equal rows have equal numbers. */
+function rowsOfFour(lists) {
+  const most = 1 + Math.max(0, ...lists.map((list) => list.reduce((x, y) => Math.max(x, y), 0)));
+  const paired = (numbers, gap, least) => {
+    const found = new Map();
+    return numbers.map((list) =>
+      list.slice(0, Math.max(0, list.length - gap)).map((x, k) => {
+        const key = x * least + list[k + gap];
+        if (!found.has(key)) found.set(key, found.size);
+        return found.get(key);
+      }),
+    );
+  };
+  const twos = paired(lists, 1, most);
+  return paired(twos, 2, 1 + twos[0].length + twos[1].length);
+}
+
+/** Where members of two lists are equal that are once in each, between these places. Members are numbers below `size`. */
+class Anchors {
+  #lists;
+  #places;
+
+  constructor(lists) {
+    const size = lists.reduce((most, list) => list.reduce((x, y) => Math.max(x, y + 1), most), 0);
+    this.#lists = lists;
+    this.#places = lists.map(() => new Int32Array(size)); // 0 if it isn't there, -1 if it is there twice, else its place and 1
+  }
+
+  between(i, m, j, n) {
+    const [[a, b], [mine, other]] = [this.#lists, this.#places];
+    for (let k = i; k < m; k += 1) mine[a[k]] = mine[a[k]] === 0 ? k + 1 : -1;
+    for (let k = j; k < n; k += 1) other[b[k]] = other[b[k]] === 0 ? k + 1 : -1;
+    const pairs = [];
+    for (let k = i; k < m; k += 1) if (mine[a[k]] > 0 && other[a[k]] > 0) pairs.push([k, other[a[k]] - 1]);
+    for (let k = i; k < m; k += 1) mine[a[k]] = 0;
+    for (let k = j; k < n; k += 1) other[b[k]] = 0;
+    return rising(pairs);
+  }
+}
+
+/** Where members, or for words four in a row, are equal that are once in each. */
+function anchorsOf(a, b, byAnchors) {
+  const ones = new Anchors([a, b]);
+  let fours = null;
+  return (i, m, j, n) => {
+    if (byAnchors) return ones.between(i, m, j, n);
+    fours ??= new Anchors(rowsOfFour([a, b]));
+    const found = fours.between(i, Math.max(i, m - 3), j, Math.max(j, n - 3));
+    return found.length > 0 ? found : ones.between(i, m, j, n);
+  };
 }
 
 /** The least members that go and come, by Myers' greedy search; if it takes more than so many steps, the way that got furthest. */
@@ -111,6 +158,7 @@ function search(a, b, i, m, j, n, steps, work) {
 /** Which members stay, as runs (place, place, count). */
 function runsOf(a, b, byAnchors, work) {
   const found = [];
+  const anchorsBetween = anchorsOf(a, b, byAnchors);
   const todo = [[0, a.length, 0, b.length, 0]];
   while (todo.length > 0) {
     let [i, m, j, n, depth] = todo.pop();
@@ -132,8 +180,7 @@ function runsOf(a, b, byAnchors, work) {
         continue;
       }
     }
-    let anchors = [];
-    for (const size of byAnchors ? [1] : [4, 1]) if (depth < DEPTH && anchors.length === 0) anchors = anchorsOf(a, b, i, m, j, n, size);
+    const anchors = depth < DEPTH ? anchorsBetween(i, m, j, n) : [];
     if (anchors.length > 0) {
       let end = [m, n];
       for (const anchor of anchors.reverse()) {
@@ -166,6 +213,7 @@ function runsOf(a, b, byAnchors, work) {
 function align(old, now, byAnchors, work) {
   const numbers = new Map(now.map((x, k) => [x, k]));
   const olds = new Set(old);
+  if (!now.some((x) => olds.has(x))) return [];
   const placesOf = (list, isThere) => list.map((_, k) => k).filter((k) => isThere(list[k]));
   const places = [placesOf(old, (x) => numbers.has(x)), placesOf(now, (x) => olds.has(x))];
   const [a, b] = [places[0].map((k) => numbers.get(old[k])), places[1].map((k) => numbers.get(now[k]))];
@@ -185,9 +233,7 @@ function isLineByLine(old, now) {
     const [x, y] = [stripped(old[at]).text, stripped(now[at]).text];
     const least = Math.min(x.length, y.length);
     const front = frontOf(x, y);
-    let end = 0;
-    while (end < least - front && x[x.length - 1 - end] === y[y.length - 1 - end]) end += 1;
-    if (2 * (front + end) >= least) alike += 1;
+    if (2 * (front + endOf(x, y, least - front)) >= least) alike += 1;
   }
   return 4 * alike >= 3 * looks;
 }
@@ -234,6 +280,10 @@ class Comparison {
 
   /** What has nothing in common: line with line, and word with word where there are as many; otherwise in proportion. */
   #pair(a, m, b, n) {
+    if (!hasSpace(this.old, a, m) && !hasSpace(this.now, b, n)) {
+      this.#put(a, m, b, n);
+      return;
+    }
     const [gone, come] = [this.old.slice(a, m), this.now.slice(b, n)];
     if (!stripped(gone).text || !stripped(come).text) {
       this.#put(a, m, b, n);
@@ -252,7 +302,8 @@ class Comparison {
 
   /** So many units stay; what is before them is done now. */
   #stays(a, b, count) {
-    if (a > this.#at || b > this.#to) this.#pair(this.#at, a, this.#to, b);
+    const isSame = a - this.#at === b - this.#to && this.old.slice(this.#at, a) === this.now.slice(this.#to, b);
+    if (!isSame) this.#pair(this.#at, a, this.#to, b);
     [this.#at, this.#to] = [a + count, b + count];
   }
 
@@ -277,19 +328,26 @@ class Comparison {
     }
   }
 
-  /** Lines that aren't the same: by words, whatever is between them. */
+  /** Lines that aren't the same: by words, whatever is between them. The equal front and the equal end stay, back or on to a space. */
   #words(a, gone, b, come) {
     let front = frontOf(gone, come);
     while (front > 0 && !isSpace(gone.charCodeAt(front - 1))) front -= 1;
+    let end = endOf(gone, come, Math.min(gone.length, come.length) - front);
+    while (end > 0 && !isSpace(gone.charCodeAt(gone.length - end))) end -= 1;
     this.#stays(a, b, front);
-    const sides = [gone, come].map((text) => [...text.slice(front).matchAll(TOKENS)]);
+    this.#byWords(a + front, gone.slice(front, gone.length - end), b + front, come.slice(front, come.length - end));
+    this.#stays(a + gone.length - end, b + come.length - end, end);
+  }
+
+  #byWords(a, gone, b, come) {
+    const sides = [gone, come].map((text) => [...text.matchAll(TOKENS)]);
     const texts = sides.map((side) => side.map(([text]) => text));
-    if (texts[0].length === 0 || texts[1].length === 0) return;
+    if (texts.some((side) => side.length === 0) || texts.every((side) => side.length === 1)) return;
     const pairs = align(...texts, false, this.work);
     let same = 0;
     for (const [i] of pairs) same += texts[0][i].length;
     if (5 * same < Math.min(...texts.map((side) => sizeOf(side, 0, side.length)))) return;
-    for (const [i, j] of pairs) this.#stays(a + front + sides[0][i].index, b + front + sides[1][j].index, texts[0][i].length);
+    for (const [i, j] of pairs) this.#stays(a + sides[0][i].index, b + sides[1][j].index, texts[0][i].length);
   }
 
   #changedLines(a, old, b, now) {
@@ -303,7 +361,8 @@ class Comparison {
 
   compare() {
     const [old, now] = [linesOf(this.old), linesOf(this.now)];
-    const [olds, nows] = [old, now].map((lines) => lines.map((line) => line.replace(/[\t-\r ]+/g, '')));
+    const keysOf = (text, count) => text.replace(/[\t\v\f\r ]+/g, '').split('\n').slice(0, count);
+    const [olds, nows] = [keysOf(this.old, old.length), keysOf(this.now, now.length)];
     let [a, b, i, j] = [0, 0, 0, 0];
     for (const [x, y] of [...align(olds, nows, true, this.work), [old.length, now.length]]) {
       if (x > i && y > j) this.#changedLines(a, old.slice(i, x), b, now.slice(j, y));

@@ -2,8 +2,7 @@
 import { execFile } from 'node:child_process';
 import { EventEmitter } from 'node:events';
 import { promisify } from 'node:util';
-import { changeOf, crossed, difference, lineOf } from './changes.js';
-import { compared } from './compare.js';
+import { changeOf, changesOf, CHARACTERS, crossed, lineOf, placeAfter } from './changes.js';
 import { Refused, RlsError } from './errors.js';
 import { Program } from './program.js';
 import { Text } from './text.js';
@@ -12,6 +11,9 @@ const MOST_INPUT = 67_108_864 - 4_096; // bytes that a session reads before it s
 const MOST_CHARACTERS = 1_048_576; // of one insertion
 const MOST_DELETED = 4_194_304; // of one deletion
 const MOST_RUNS = 500; // runs of identifiers from which a rename is due
+const AT_ONCE = 256; // changes that are handed on before their replies are read, with version 3
+const REST = [1000, 3000]; // milliseconds from the last change to a store, and at most from the first one
+const HOLD = 3000; // the same, if the last change took something away: what is put in its place comes then
 
 /** What `rls stat` prints: a word, and its numbers. */
 const statOf = (printed) =>
@@ -25,19 +27,35 @@ const statOf = (printed) =>
   );
 
 /** A string as insertions that the program takes, each of which ends between two characters. */
-function insertions(at, string) {
+function checked(string) {
   if (/\p{Surrogate}/u.test(string)) throw new RangeError('a lone surrogate can not be in the text');
-  const characters = string.length > MOST_CHARACTERS ? [...string] : null;
-  if (!characters) return string ? [{ at, text: string }] : [];
+  return string;
+}
+
+function insertions(at, text) {
+  const characters = text.length > MOST_CHARACTERS ? [...text] : null;
+  if (!characters) return text ? [{ at, count: 0, text }] : [];
   const found = [];
-  for (let k = 0; k < characters.length; k += MOST_CHARACTERS) found.push({ at: at + k, text: characters.slice(k, k + MOST_CHARACTERS).join('') });
+  for (let k = 0; k < characters.length; k += MOST_CHARACTERS) {
+    found.push({ at: at + k, count: 0, text: characters.slice(k, k + MOST_CHARACTERS).join('') });
+  }
   return found;
 }
 
 function deletions(at, count) {
   const found = [];
-  for (let left = count; left > 0; left -= MOST_DELETED) found.push({ at, count: Math.min(left, MOST_DELETED) });
+  for (let left = count; left > 0; left -= MOST_DELETED) found.push({ at, count: Math.min(left, MOST_DELETED), text: '' });
   return found;
+}
+
+/**
+ * The changes that are asked for one by one. A program with the third version takes a replacement as it is. An older one is told first what
+ * comes, behind what goes, and then what goes: so the run of identifiers that ends there goes on (examples/COMPARE.md).
+ */
+function editsOf({ at, count, text }, version) {
+  if (count === 0 && !text) return [];
+  if (version >= 3 && count <= MOST_DELETED && text.length <= MOST_CHARACTERS) return [{ at, count, text }];
+  return [...insertions(at + count, text), ...deletions(at, count)];
 }
 
 /**
@@ -56,6 +74,10 @@ export class Session extends EventEmitter {
   #changed = MOST_RUNS;
   #failure = null;
   #isEnding = false;
+  #typed = null; // when the first and the last change were made that aren't stored yet, and whether the last one only took something away
+
+  /** The clock by which `storeDueIn` counts, in milliseconds. */
+  clock = () => performance.now();
 
   /**
    * Opens the replica of a folder. `program` is `rls` or what the environment's RLS names. If another program holds the folder for longer than
@@ -72,7 +94,7 @@ export class Session extends EventEmitter {
     return session;
   }
 
-  /** What the program speaks: 1 or 2. */
+  /** What the program speaks: 1, 2 or 3. */
   get version() {
     return this.#version;
   }
@@ -94,14 +116,20 @@ export class Session extends EventEmitter {
   async #begin() {
     this.#program = new Program(this.#command, this.folder, this.#wait);
     this.#given = 0;
-    const isTelling = (await this.#line('v')) === 'version 2' && (await this.#line('c 1')) === 'telling 1';
-    this.#version = isTelling ? 2 : 1;
+    for (const line of ['v 3', 'v']) this.#put(line);
+    const [newest, old] = [await this.#program.line(), await this.#program.line()];
+    this.#version = newest === 'version 3' ? 3 : old === 'version 2' ? 2 : 1;
+    if (this.#version >= 2 && (await this.#line('c 1')) !== 'telling 1') this.#version = 1;
     this.isUnsaved = false;
   }
 
-  async #line(line, data) {
+  #put(line, data) {
     this.#given += Buffer.byteLength(line) + 1 + (data?.length ?? 0);
     this.#program.write(line, data);
+  }
+
+  async #line(line, data) {
+    this.#put(line, data);
     return this.#program.line();
   }
 
@@ -109,7 +137,7 @@ export class Session extends EventEmitter {
   async #ask(line, data) {
     const reply = await this.#line(line, data);
     if (reply === 'bad') throw new RlsError(4, `bad: ${line.slice(0, 60)}`);
-    if (this.#version === 2 && /^[idbruzym]( |$)/.test(line)) await this.#readChanges(/^[id] /.test(line) && !reply.startsWith('no '));
+    if (this.#version >= 2 && /^[idbruzym]( |$)/.test(line)) await this.#readChanges(/^[id] /.test(line) && !reply.startsWith('no '));
     if (reply.startsWith('no ')) throw new Refused(reply.slice(3));
     return reply.split(' ');
   }
@@ -139,7 +167,11 @@ export class Session extends EventEmitter {
   #accept(changes) {
     let news = changes;
     for (const entry of this.#queue) {
-      if (entry.edits) [entry.edits, news] = crossed(entry.edits, news);
+      if (entry.place !== undefined) entry.place = placeAfter(entry.place, news, { measure: CHARACTERS });
+      if (!entry.edits) continue;
+      const [edits, then] = crossed(entry.edits, news, CHARACTERS);
+      entry.edits = edits.flatMap((change) => editsOf(change, this.#version));
+      news = then;
     }
     if (news.length === 0) return;
     this.emit('change', news.map((change) => this.#text.apply(change)));
@@ -147,7 +179,7 @@ export class Session extends EventEmitter {
 
   /** Makes the text here that of the program: after a refusal, or where the program doesn't tell what changed. */
   async #compare(before) {
-    this.#accept(difference(before, await this.#askText()));
+    this.#accept(changesOf(before, await this.#askText()));
   }
 
   /** Performs what is asked for, one after another. What is at work stays the first of the queue, so its places move too. */
@@ -159,7 +191,7 @@ export class Session extends EventEmitter {
       let finish;
       try {
         if (this.#failure) throw this.#failure;
-        const answer = await (entry.what ? entry.what(entry.edits) : this.#perform(entry));
+        const answer = await (entry.what ? entry.what(entry.place) : this.#perform(entry));
         finish = () => entry.resolve(answer);
       } catch (error) {
         if (!(error instanceof Refused) && !(error instanceof RangeError)) this.#fail(error);
@@ -187,15 +219,11 @@ export class Session extends EventEmitter {
 
   /** Sends edits that are made here already. If one is refused, those that are still to be sent are given up, and the text is the program's. */
   async #perform(entry) {
-    await this.#roomFor(entry.edits.reduce((sum, edit) => sum + (edit.text?.length ?? 0) * 6 + 64, 0));
     try {
-      while (entry.edits.length > 0) {
-        await this.#ask(lineOf(entry.edits.shift()));
-        this.#edited(1);
-      }
+      while (entry.edits.length > 0) await (this.#version >= 3 ? this.#handOn(entry.edits) : this.#edit(entry.edits.shift()));
     } catch (error) {
       if (!(error instanceof Refused)) throw error;
-      const isGiven = (other) => other !== entry && other.edits && !other.what;
+      const isGiven = (other) => other !== entry && other.edits;
       const given = this.#queue.filter(isGiven);
       entry.edits = [];
       this.#queue = this.#queue.filter((other) => !isGiven(other));
@@ -205,22 +233,40 @@ export class Session extends EventEmitter {
     }
   }
 
+  async #edit(change) {
+    const line = lineOf(change, this.#version);
+    await this.#roomFor(Buffer.byteLength(line) + 64);
+    await this.#ask(line);
+    this.#edited(1);
+  }
+
+  /** Hands changes on without waiting for a reply to each: nothing of others happens in the session between them. */
+  async #handOn(edits) {
+    const lines = edits.splice(0, AT_ONCE).map((change) => lineOf(change, this.#version));
+    await this.#roomFor(lines.reduce((sum, line) => sum + Buffer.byteLength(line) + 1, 64));
+    for (const line of lines) this.#put(line);
+    let refused = null;
+    for (const line of lines) {
+      const reply = await this.#program.line();
+      if (reply === 'bad') throw new RlsError(4, `bad: ${line.slice(0, 60)}`);
+      if (reply.startsWith('no ')) refused ??= new Refused(reply.slice(3));
+      else this.#edited(1);
+    }
+    if (refused) throw refused;
+  }
+
   #edited(count) {
     this.#changed += count;
     this.isUnsaved = true;
   }
 
-  /** What comes is put behind what goes, and then that goes: so the run of identifiers that ends there goes on (examples/COMPARE.md). */
-  #editsOf(at, count, string) {
-    const [from, to] = [this.#text.toCharacters(at), this.#text.toCharacters(at + count)];
-    return [...insertions(to, string), ...deletions(from, to - from)];
-  }
-
   /** Takes `count` units away from `at` on, and puts `string` there. The text here has it at once; the answer comes when the program has it. */
   async replace(at, count, string) {
     if (this.#failure) throw this.#failure;
-    const edits = this.#editsOf(at, count, string);
+    const [from, to] = [this.#text.toCharacters(at), this.#text.toCharacters(at + count)];
+    const edits = editsOf({ at: from, count: to - from, text: checked(string) }, this.#version);
     this.#text.splice(at, count, string);
+    this.#isTold(count > 0 && !string);
     if (edits.length > 0) await this.#asked({ edits });
   }
 
@@ -235,22 +281,39 @@ export class Session extends EventEmitter {
   /** Makes the text this one, and where it stays as it is, what others write there keeps its place (examples/COMPARE.md). */
   async setText(string) {
     if (this.#failure) throw this.#failure;
-    const edits = [];
-    for (const { at, count, text } of compared(this.text, string).found.reverse()) {
-      edits.push(...this.#editsOf(at, count, text));
-      this.#text.splice(at, count, text);
-    }
+    const edits = changesOf(this.text, checked(string)).flatMap((change) => editsOf(change, this.#version));
+    this.#text = new Text(string);
+    this.#isTold(false);
     if (edits.length > 0) await this.#asked({ edits });
+  }
+
+  // --- When to store
+
+  #isTold(isTaken) {
+    const now = this.clock();
+    this.#typed = { first: this.#typed?.first ?? now, last: now, isTaken };
+  }
+
+  /**
+   * In how many milliseconds it is well to store and to send, if nothing more is typed: 0 is now, and null says that nothing was. It is a second
+   * after the last change, and three after the first one at the latest; three after a change that took something away, so that what is put in
+   * its place becomes one change with it (docs/SESSION.md).
+   */
+  storeDueIn() {
+    if (!this.#typed) return null;
+    const { first, last, isTaken } = this.#typed;
+    const due = Math.min(last + (isTaken ? HOLD : REST[0]), first + REST[1] + (isTaken ? HOLD : 0));
+    return Math.max(0, due - this.clock());
   }
 
   // --- Undo
 
   /**
-   * Takes own edits back, whatever others did since: with version 2 the last group (see `endGroup`), also after it was stored; with version 1
+   * Takes own edits back, whatever others did since: since version 2 the last group (see `endGroup`), also after it was stored; with version 1
    * the last edit that isn't stored. The answer is whether there was anything.
    */
   undo() {
-    return this.#undo(() => (this.#version === 2 ? 'z' : 'u'));
+    return this.#undo(() => (this.#version >= 2 ? 'z' : 'u'));
   }
 
   /** Does the group again that was taken back last. With version 1 it is an RlsError with status 4. */
@@ -343,15 +406,15 @@ export class Session extends EventEmitter {
 
   /** Puts one of the cursors 0 to 63 (with version 1 there is 0 alone), which moves with the character before it or, with `before`, the one after it. */
   putCursor(at, { cursor = 0, before = false } = {}) {
-    return this.#askedAt(at, async ([mark]) => {
+    return this.#askedAt(at, async (place) => {
       if (cursor > 0 || before) this.#need('putCursor');
-      await this.#ask(`${before ? 'j' : 'k'} ${mark.at}${cursor > 0 ? ` ${cursor}` : ''}`);
+      await this.#ask(`${before ? 'j' : 'k'} ${place}${cursor > 0 ? ` ${cursor}` : ''}`);
     });
   }
 
   /** Asks for something at a place of the text as it is here now; others may change the text before it is asked. */
   async #askedAt(at, what) {
-    return this.#asked({ what, edits: [{ at: this.#text.toCharacters(at), text: '' }] });
+    return this.#asked({ what, place: this.#text.toCharacters(at) });
   }
 
   /** Where that cursor is now. */
@@ -366,9 +429,9 @@ export class Session extends EventEmitter {
 
   /** A place as one word, for other members. Needs version 2. */
   place(at) {
-    return this.#askedAt(at, async ([mark]) => {
+    return this.#askedAt(at, async (place) => {
       this.#need('place');
-      return (await this.#ask(`a ${mark.at}`))[1];
+      return (await this.#ask(`a ${place}`))[1];
     });
   }
 
@@ -385,9 +448,9 @@ export class Session extends EventEmitter {
 
   /** Where a character of the program's text is in the text here, which has edits that aren't asked for yet. */
   #unitOf(character) {
-    let mark = [{ at: Number(character), text: '' }];
-    for (const entry of this.#queue) if (entry.edits) [, mark] = crossed(entry.edits, mark);
-    return this.#text.toUnits(mark[0].at);
+    let place = Number(character);
+    for (const { edits } of this.#queue) if (edits) place = placeAfter(place, edits, { behind: true, measure: CHARACTERS });
+    return this.#text.toUnits(place);
   }
 
   // --- Storing
@@ -402,10 +465,10 @@ export class Session extends EventEmitter {
   }
 
   async #store() {
-    await (this.#version === 2 ? this.#storeAndGoOn() : this.#beginAgain());
+    await (this.#version >= 2 ? this.#storeAndGoOn() : this.#beginAgain());
     if (this.renameAt <= 0 || this.#changed * 8 < this.renameAt) return;
     this.#changed = 0;
-    const stat = this.#version === 2 ? await this.#stat() : statOf((await promisify(execFile)(this.#command, ['stat'], { cwd: this.folder })).stdout);
+    const stat = this.#version >= 2 ? await this.#stat() : statOf((await promisify(execFile)(this.#command, ['stat'], { cwd: this.folder })).stdout);
     if (stat.runs[0] <= this.renameAt * Math.min(8, stat.epochs[0])) return;
     try {
       await this.#ask('r');
@@ -413,10 +476,11 @@ export class Session extends EventEmitter {
       if (error instanceof Refused) return;
       throw error;
     }
-    await (this.#version === 2 ? this.#storeAndGoOn() : this.#beginAgain());
+    await (this.#version >= 2 ? this.#storeAndGoOn() : this.#beginAgain());
   }
 
   async #storeAndGoOn() {
+    if (!this.#queue.some((entry, k) => k > 0 && entry.edits)) this.#typed = null;
     if ((await this.#line('w')) !== 'saved') throw new RlsError(7, 'not stored');
     this.#given = 0;
     this.isUnsaved = false;

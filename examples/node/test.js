@@ -6,8 +6,8 @@ import os from 'node:os';
 import path from 'node:path';
 import { after, before, test } from 'node:test';
 import { fileURLToPath } from 'node:url';
-import { applied, difference, Mailbox, Refused, RlsError, Session, Stale, Text } from './rls.js';
-import { crossed } from './changes.js';
+import { applied, compared, crossed, Mailbox, placeAfter, Refused, RlsError, Session, Stale, Text } from './rls.js';
+import { changesOf, CHARACTERS } from './changes.js';
 
 process.env.RLS ??= fileURLToPath(new URL('../../bin/rls', import.meta.url));
 const rls = path.resolve(process.env.RLS);
@@ -91,34 +91,55 @@ test('places in units and in characters', () => {
   assert.throws(() => new Text('a').toCharacters(2), RangeError);
 });
 
+const inUnits = (string, changes) => changes.reduce((now, { at, count = 0, text = '' }) => now.slice(0, at) + text + now.slice(at + count), string);
+
 test('what two changed at once', () => {
-  const change = (length) => {
-    const at = random(length + 1);
-    const count = Math.min(random(5), length - at);
-    return random(2) && count ? { at, count } : { at, text: pick(['x', 'yz', '\u{1F600}']) };
-  };
-  const some = (string) => {
+  const some = (string, play, length) => {
     const found = [];
     let now = string;
-    for (let k = random(4); k > 0; k -= 1) {
-      found.push(change([...now].length));
-      now = applied(now, found.slice(-1));
+    for (let k = random(5); k > 0; k -= 1) {
+      const at = random(length(now) + 1);
+      found.push({ at, count: Math.min(random(5), length(now) - at), text: pick(['', '', 'x', 'yz', '\u{1F600}']) });
+      now = play(now, found.slice(-1));
     }
     return found;
   };
   for (let step = 0; step < 3_000; step += 1) {
-    const first = some('abcdefgh');
-    const second = some('abcdefgh');
-    const [firstThen, secondThen] = crossed(first, second);
-    assert.equal(applied(applied('abcdefgh', first), secondThen), applied(applied('abcdefgh', second), firstThen));
+    for (const [play, length, measure] of [[applied, (x) => [...x].length, CHARACTERS], [inUnits, (x) => x.length, undefined]]) {
+      const [first, second] = [0, 1].map(() => some('abcdefgh', play, length));
+      const [firstThen, secondThen] = crossed(first, second, measure);
+      assert.equal(play(play('abcdefgh', first), secondThen), play(play('abcdefgh', second), firstThen));
+      const place = random(length(play('abcdefgh', first)) + 1);
+      assert.ok(placeAfter(place, secondThen, { measure }) <= placeAfter(place, secondThen, { measure, behind: true }));
+    }
   }
+});
+
+test('what two changed at once: 20,000 changes at each side take less than two seconds', () => {
+  const some = (text) => Array.from({ length: 20_000 }, (_, k) => ({ at: random(40_000 + k), count: 0, text }));
+  const began = performance.now();
+  const [first, second] = [some('a'), some('b')];
+  const [firstThen] = crossed(first, second);
+  assert.ok(performance.now() - began < 2_000);
+  assert.equal(firstThen.reduce((sum, { text }) => sum + text.length, 0), 20_000);
 });
 
 test('what differs', () => {
   for (let step = 0; step < 2_000; step += 1) {
-    const [old, now] = [0, 1].map(() => Array.from({ length: random(8) }, () => pick(['a', 'b', '\u{1F600}', '\u{1F601}', '\u{1FA00}'])).join(''));
-    assert.equal(applied(old, difference(old, now)), now);
+    const [old, now] = [0, 1].map(() => Array.from({ length: random(8) }, () => pick(['a', 'b', ' ', '\n', '\0', '\u{1F600}', '\u{1F601}', '\u{1FA00}'])).join(''));
+    assert.equal(applied(old, changesOf(old, now)), now);
   }
+});
+
+test('what differs in 100,000 lines with a word changed in each takes seconds, and no line goes as a whole', () => {
+  const words = 'lorem ipsum dolor sit amet consectetur adipiscing elit'.split(' ');
+  const lines = Array.from({ length: 100_000 }, () => Array.from({ length: 8 }, () => pick(words)));
+  const old = lines.map((x) => x.join(' ')).join('\n');
+  for (const line of lines) line[random(8)] = 'changed';
+  const began = performance.now();
+  const { found } = compared(old, lines.map((x) => x.join(' ')).join('\n'));
+  assert.ok(performance.now() - began < 10_000);
+  assert.ok(found.every(({ count, text }) => count < 12 && text.length < 8));
 });
 
 test('editing, and what is stored', async (t) => {
@@ -182,7 +203,7 @@ test('two type at once, and what each shows is the text', async (t) => {
     const gone = characters.slice(at, at + (random(3) === 0 ? random(4) : 0)).join('').length;
     waiting.push(type(a, unit, gone, pick(['ab', '\u{1F600}', '\n', '\\n', ''])));
     if (random(6) === 0) waiting.push(a.undo());
-    if (random(10) === 0 && version === 2) waiting.push(a.redo());
+    if (random(10) === 0 && version >= 2) waiting.push(a.redo());
     if (random(12) === 0) waiting.push(exchange(...all));
     if (random(25) === 0) await Promise.all(waiting);
   }

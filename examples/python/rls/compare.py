@@ -9,6 +9,7 @@ DEPTH = 12                  # anchors within anchors
 SPACES = "\t\n\v\f\r "
 LINE = re.compile(r"[^\n]*\n|[^\n]+")
 WORD = re.compile(r"[^\t-\r ]+")
+SPACE = re.compile(r"[\t-\r ]")
 LETTER = "0-9A-Za-z_\u00aa\u00b5\u00ba\u00c0-\u00d6\u00d8-\u00f6\u00f8-\u0dff\u10a0-\u1fff"
 MARK = "\u0300-\u036f\u1ab0-\u1aff\u1dc0-\u1dff\u200c\u200d\u20d0-\u20ff\ufe00-\ufe0f\ufe20-\ufe2f\U0001f3fb-\U0001f3ff"
 TOKEN = re.compile(f"[{LETTER}][{LETTER}{MARK}]*|[^\t-\r ](?:[{MARK}]|(?<=\u200d)[^\t-\r ])*")
@@ -52,13 +53,18 @@ def _rising(pairs: List[Tuple[int, int]]) -> List[Tuple[int, int]]:
     return found[::-1]
 
 
-def _anchors(a: Sequence[int], b: Sequence[int], i: int, m: int, j: int, n: int, size: int) -> List[Tuple[int, int]]:
-    """Where members (or so many in a row) are equal that are once in each."""
-    sides: List[Dict[object, int]] = []
+def _fours(a: Sequence[int], b: Sequence[int]) -> List[Sequence[int]]:
+    """Four members in a row of each list as one number, from each place on where there are four."""
+    numbers: Dict[Tuple[int, ...], int] = {}
+    return [[numbers.setdefault(key, len(numbers)) for key in zip(s, s[1:], s[2:], s[3:])] for s in (a, b)]
+
+
+def _anchors(a: Sequence[int], b: Sequence[int], i: int, m: int, j: int, n: int) -> List[Tuple[int, int]]:
+    """Where members are equal that are once in each."""
+    sides: List[Dict[int, int]] = []
     for s, low, high in ((a, i, m), (b, j, n)):
-        once: Dict[object, int] = {}
-        for k in range(low, high - size + 1):
-            key = s[k] if size == 1 else tuple(s[k:k + size])
+        once: Dict[int, int] = {}
+        for k, key in enumerate(s[low:max(low, high)], low):
             once[key] = -1 if key in once else k
         sides.append(once)
     mine, other = sides
@@ -111,6 +117,8 @@ def _align(old: List[str], new: List[str], by_anchors: bool, work: _Work) -> Lis
     """Which members of two lists stay, as pairs of places that rise. What the other list doesn't have is left out first."""
     numbers = {x: k for k, x in enumerate(new)}
     both = set(old).intersection(numbers)
+    if not both:
+        return []
     places = [[k for k, x in enumerate(side) if x in both] for side in (old, new)]
     a, b = [[numbers[side[k]] for k in kept] for side, kept in zip((old, new), places)]
     return [(places[0][i + k], places[1][j + k]) for i, j, count in _runs(a, b, by_anchors, work) for k in range(count)]
@@ -119,6 +127,7 @@ def _align(old: List[str], new: List[str], by_anchors: bool, work: _Work) -> Lis
 def _runs(a: Sequence[int], b: Sequence[int], by_anchors: bool, work: _Work) -> List[Run]:
     """Which members stay, as runs (place, place, count)."""
     found: List[Run] = []
+    fours: List[Sequence[int]] = []
     todo = [(0, len(a), 0, len(b), 0)]
     while todo:
         i, m, j, n, depth = todo.pop()
@@ -145,9 +154,9 @@ def _runs(a: Sequence[int], b: Sequence[int], by_anchors: bool, work: _Work) -> 
                 found += runs
                 continue
         if depth < DEPTH:
-            anchors: List[Tuple[int, int]] = []
-            for size in ((1,) if by_anchors else (4, 1)):
-                anchors = anchors or _anchors(a, b, i, m, j, n, size)
+            fours = fours or ([a, b] if by_anchors else _fours(a, b))
+            anchors = [] if by_anchors else _anchors(fours[0], fours[1], i, m - 3, j, n - 3)
+            anchors = anchors or _anchors(a, b, i, m, j, n)
             if anchors:
                 ends = anchors[1:] + [(m, n)]
                 for (x, y), (p, q) in zip(reversed(anchors), reversed(ends)):
@@ -174,6 +183,13 @@ def _runs(a: Sequence[int], b: Sequence[int], by_anchors: bool, work: _Work) -> 
     return found
 
 
+def _without_spaces(text: str) -> List[str]:
+    """Its lines without their spaces."""
+    for space in "\t\v\f\r ":
+        text = text.replace(space, "")
+    return text.split("\n")
+
+
 def _front(old: str, new: str) -> int:
     """How many characters are equal at the front: by halving."""
     low, high = 0, min(len(old), len(new))
@@ -186,21 +202,34 @@ def _front(old: str, new: str) -> int:
     return low
 
 
+def _end(old: str, new: str, most: int) -> int:
+    """How many characters, of so many at most, are equal at the end: by halving."""
+    low, high, m, n = 0, most, len(old), len(new)
+    while low < high:
+        middle = (low + high + 1) // 2
+        if old[m - middle:m - low] == new[n - middle:n - low]:
+            low = middle
+        else:
+            high = middle - 1
+    return low
+
+
 def is_line_by_line(old: List[str], new: List[str]) -> bool:
     """Whether three of four lines (of 32 that it looks at) begin and end as the other one does, for half of the shorter."""
     looks = min(len(old), 32)
     alike = 0
     for k in range(looks):
         x, y = old[k * len(old) // looks].strip(SPACES), new[k * len(old) // looks].strip(SPACES)
+        least = min(len(x), len(y))
         front = _front(x, y)
-        end = _front(x[front:][::-1], y[front:][::-1])
-        alike += 2 * (front + end) >= min(len(x), len(y))
+        alike += 2 * (front + _end(x, y, least - front)) >= least
     return 4 * alike >= 3 * looks
 
 
 class _Comparison:
     def __init__(self, old: str, new: str) -> None:
         self.old, self.new, self.work = old, new, _Work()
+        self.has_marks = not (old.isascii() and new.isascii())
         self.at = self.to = 0                           # what is before is done, in the old and in the new text
         self.found: List[Replacement] = []
 
@@ -217,12 +246,12 @@ class _Comparison:
         p, q = a, b
         while p < m and q < n and old[p] == new[q]:
             p, q = p + 1, q + 1
-        while p > a and (self.is_joined(old, p) or self.is_joined(new, q)):
+        while self.has_marks and p > a and (self.is_joined(old, p) or self.is_joined(new, q)):
             p, q = p - 1, q - 1
         m0 = m
         while m > p and n > q and old[m - 1] == new[n - 1]:
             m, n = m - 1, n - 1
-        while m < m0 and (self.is_joined(old, m) or self.is_joined(new, n)):
+        while self.has_marks and m < m0 and (self.is_joined(old, m) or self.is_joined(new, n)):
             m, n = m + 1, n + 1
         if m > p or n > q:
             self.found.append(Replacement(p, m - p, new[q:n]))
@@ -246,7 +275,8 @@ class _Comparison:
 
     def pair(self, a: int, m: int, b: int, n: int) -> None:
         """What has nothing in common: line with line, and word with word where there are as many; otherwise in proportion."""
-        if a == m or b == n or not WORD.search(self.old, a, m) or not WORD.search(self.new, b, n):
+        is_one = not SPACE.search(self.old, a, m) and not SPACE.search(self.new, b, n)
+        if is_one or not WORD.search(self.old, a, m) or not WORD.search(self.new, b, n):
             self.put(a, m, b, n)
             return
         old, new = LINE.findall(self.old, a, m), LINE.findall(self.new, b, n)
@@ -254,7 +284,7 @@ class _Comparison:
 
     def stays(self, a: int, b: int, count: int) -> None:
         """So many characters stay; what is before them is done now."""
-        if a > self.at or b > self.to:
+        if self.old[self.at:a] != self.new[self.to:b]:
             self.pair(self.at, a, self.to, b)
         self.at, self.to = a + count, b + count
 
@@ -279,16 +309,25 @@ class _Comparison:
                 p, q = p + size, q + size
 
     def words(self, a: int, m: int, b: int, n: int) -> None:
-        """Lines that aren't the same: by words, whatever is between them."""
-        front = _front(self.old[a:m], self.new[b:n])
-        while front and self.old[a + front - 1] not in SPACES:
+        """Lines that aren't the same: by words, whatever is between them. The equal front and the equal end stay, back or on to a space."""
+        old, new = self.old[a:m], self.new[b:n]
+        front = _front(old, new)
+        while front and old[front - 1] not in SPACES:
             front -= 1
+        end = _end(old, new, min(len(old), len(new)) - front)
+        while end and old[-end] not in SPACES:
+            end -= 1
         self.stays(a, b, front)
-        a, b = a + front, b + front
-        sides = [list(TOKEN.finditer(s, x, y)) for s, x, y in ((self.old, a, m), (self.new, b, n))]
-        texts = [[x.group() for x in side] for side in sides]
-        if not texts[0] or not texts[1]:
+        self.by_words(a + front, m - end, b + front, n - end)
+        self.stays(m - end, n - end, end)
+
+    def by_words(self, a: int, m: int, b: int, n: int) -> None:
+        if TOKEN.fullmatch(self.old, a, m) and TOKEN.fullmatch(self.new, b, n):
             return
+        sides = [list(TOKEN.finditer(s, x, y)) for s, x, y in ((self.old, a, m), (self.new, b, n))]
+        if not sides[0] or not sides[1]:
+            return
+        texts = [[x.group() for x in side] for side in sides]
         pairs = _align(*texts, False, self.work)
         same = sum(len(texts[0][i]) for i, _ in pairs)
         if 5 * same < min(sum(map(len, texts[0])), sum(map(len, texts[1]))):
@@ -305,7 +344,7 @@ class _Comparison:
 
     def compare(self) -> None:
         old, new = LINE.findall(self.old), LINE.findall(self.new)
-        keys = [["".join(x.split()) for x in side] for side in (old, new)]
+        keys = [_without_spaces(self.old)[:len(old)], _without_spaces(self.new)[:len(new)]]
         a = b = i = j = 0
         for x, y in _align(*keys, True, self.work) + [(len(old), len(new))]:
             p, q = a + sum(map(len, old[i:x])), b + sum(map(len, new[j:y]))

@@ -1,0 +1,7 @@
+// Makes the text of the replica in a folder that of a file, by the client in Node: set-text.mjs FOLDER FILE.
+import fs from 'node:fs';
+import { Session } from '../node/rls.js';
+
+const session = await Session.open(process.argv[2]);
+await session.setText(fs.readFileSync(process.argv[3], 'utf8'));
+await session.close();
