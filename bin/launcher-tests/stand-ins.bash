@@ -1,4 +1,4 @@
-# What bin/rls does where a program that it calls, such as head, flock or diff, fails or finds no room: a stand-in answers in its place.
+# What bin/rls does where a program that it calls, such as head, flock or awk, fails or finds no room: a stand-in answers in its place.
 # bin/test-rls reads this and sets `room` and `rls`.
 # shellcheck shell=bash disable=SC2154
 
@@ -51,10 +51,11 @@ if command -v flock >/dev/null; then
   kill "$holder"
 fi
 printf 'another text\n' >file
-for tool in sed diff awk tr cat; do
+for tool in sed awk tr cat; do
   expect "no comparison: $tool" 8 "$(tools with "$tool" 'exit 2' status_of "$rls" edit --text ../file)"
 done
 expect 'no comparison: nothing was done' xxxxonetwo "$(tools "$rls" text)"
+expect 'a comparison without the command diff' 0 "$(rm -rf differing && cp -r tools differing && cd differing && with diff 'exit 2' status_of "$rls" edit --text ../file)"
 expect 'no sums' '' "$(tools with cksum 'exit 1' "$rls" check 2>/dev/null || echo ''; cat out)"
 expect 'a message is looked at without the command od' 71 "$(cd backup && with od 'exit 1' status_of "$rls" take <../m2)"
 expect 'no sums: what it means' yes "$(tools with cksum 'exit 1' status_of "$rls" check >out; says 'the sums could not be made')"

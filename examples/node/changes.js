@@ -19,23 +19,6 @@ export const CHARACTERS = {
 };
 export const UNITS = { size: (text) => text.length, end: (_, from, count) => from + count };
 
-export const escaped = (text) => text.replace(/[\\\n\r]/g, (x) => ({ '\\': '\\\\', '\n': '\\n', '\r': '\\r' })[x]);
-
-const unescaped = (text) => text.replace(/\\(.)/g, (_, x) => ({ n: '\n', r: '\r' })[x] ?? x);
-
-/** The request that makes a change. A program without the third version of the session knows no change that puts something in place of something. */
-export function lineOf({ at, count, text }, version) {
-  if (version >= 3) return `e ${at} ${count} ${escaped(text)}`;
-  return text ? `i ${at} ${escaped(text)}` : `d ${at} ${count}`;
-}
-
-/** The change that a line `i AT TEXT` or `d AT COUNT` tells. */
-export function changeOf(line) {
-  const end = line.indexOf(' ', 2);
-  const [at, rest] = [Number(line.slice(2, end)), line.slice(end + 1)];
-  return line[0] === 'd' ? { at, count: Number(rest), text: '' } : { at, count: 0, text: unescaped(rest) };
-}
-
 /** The changes that make one string of another, in characters, from the last to the first, so that no place moves (examples/COMPARE.md). */
 export function changesOf(old, now) {
   const found = [];

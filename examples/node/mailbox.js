@@ -4,7 +4,7 @@ import { createHash, randomBytes } from 'node:crypto';
 import { constants, promises as fs } from 'node:fs';
 import path from 'node:path';
 import { Refused, RlsError, Stale } from './errors.js';
-import { headOf } from './session.js';
+import { headOf } from './reports.js';
 
 const MOST_MESSAGE = 67_108_864;
 const MOST_CURSOR = 65_536; // bytes of a file with a cursor

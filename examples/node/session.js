@@ -2,61 +2,18 @@
 import { execFile } from 'node:child_process';
 import { EventEmitter } from 'node:events';
 import { promisify } from 'node:util';
-import { changeOf, changesOf, CHARACTERS, crossed, lineOf, placeAfter } from './changes.js';
+import { changesOf, CHARACTERS, crossed, placeAfter } from './changes.js';
+import { changeOf, checked, editsOf, lineOf } from './edits.js';
 import { Refused, RlsError } from './errors.js';
 import { Program } from './program.js';
+import { headOf, statOf } from './reports.js';
 import { Text } from './text.js';
 
 const MOST_INPUT = 67_108_864 - 4_096; // bytes that a session reads before it stores, less some
-const MOST_CHARACTERS = 1_048_576; // of one insertion
-const MOST_DELETED = 4_194_304; // of one deletion
 const MOST_RUNS = 500; // runs of identifiers from which a rename is due
 const AT_ONCE = 256; // changes that are handed on before their replies are read, with version 3
 const REST = [1000, 3000]; // milliseconds from the last change to a store, and at most from the first one
 const HOLD = 3000; // the same, if the last change took something away: what is put in its place comes then
-
-/** What `rls stat` prints: a word, and its numbers. */
-const statOf = (printed) =>
-  Object.fromEntries(
-    printed
-      .toString()
-      .trim()
-      .split('\n')
-      .map((line) => line.split(' '))
-      .map(([word, ...numbers]) => [word, numbers.map((x) => (word === 'group' ? BigInt(x) : Number(x)))]),
-  );
-
-/** A string as insertions that the program takes, each of which ends between two characters. */
-function checked(string) {
-  if (/\p{Surrogate}/u.test(string)) throw new RangeError('a lone surrogate can not be in the text');
-  return string;
-}
-
-function insertions(at, text) {
-  const characters = text.length > MOST_CHARACTERS ? [...text] : null;
-  if (!characters) return text ? [{ at, count: 0, text }] : [];
-  const found = [];
-  for (let k = 0; k < characters.length; k += MOST_CHARACTERS) {
-    found.push({ at: at + k, count: 0, text: characters.slice(k, k + MOST_CHARACTERS).join('') });
-  }
-  return found;
-}
-
-function deletions(at, count) {
-  const found = [];
-  for (let left = count; left > 0; left -= MOST_DELETED) found.push({ at, count: Math.min(left, MOST_DELETED), text: '' });
-  return found;
-}
-
-/**
- * The changes that are asked for one by one. A program with the third version takes a replacement as it is. An older one is told first what
- * comes, behind what goes, and then what goes: so the run of identifiers that ends there goes on (examples/COMPARE.md).
- */
-function editsOf({ at, count, text }, version) {
-  if (count === 0 && !text) return [];
-  if (version >= 3 && count <= MOST_DELETED && text.length <= MOST_CHARACTERS) return [{ at, count, text }];
-  return [...insertions(at + count, text), ...deletions(at, count)];
-}
 
 /**
  * Emits `change` with a list of changes `{ at, count, text }`, in units, to be played one after another over the text as the caller has it:
@@ -165,6 +122,7 @@ export class Session extends EventEmitter {
 
   /** Makes changes of the program's text here: they were made without the edits that aren't asked for yet, and so are these without them. */
   #accept(changes) {
+    if (changes.length === 0) return;
     let news = changes;
     for (const entry of this.#queue) {
       if (entry.place !== undefined) entry.place = placeAfter(entry.place, news, { measure: CHARACTERS });
@@ -516,13 +474,4 @@ export class Session extends EventEmitter {
     this.#program.kill();
     await this.#program.ended;
   }
-}
-
-/** The head of a message: docs/FORMATS.md. A RangeError if there is none. */
-export function headOf(message) {
-  if (message.length < 21 || message.toString('latin1', 0, 4) !== 'RLSM') throw new RangeError('no message');
-  const members = message.readUInt32BE(13);
-  if (members > 64 || message.length < 21 + 4 * members) throw new RangeError('no message');
-  const accepted = Array.from({ length: members }, (_, k) => message.readUInt32BE(21 + 4 * k));
-  return { group: message.readBigUInt64BE(5), members, me: message.readUInt32BE(17), accepted };
 }

@@ -115,12 +115,18 @@ test('what two changed at once', () => {
   }
 });
 
-test('what two changed at once: 20,000 changes at each side take less than two seconds', () => {
+/** How many seconds of a processor something takes. */
+function secondsOf(what) {
+  const began = process.cpuUsage();
+  what();
+  const { user, system } = process.cpuUsage(began);
+  return (user + system) / 1e6;
+}
+
+test('what two changed at once: 20,000 changes at each side take seconds', () => {
   const some = (text) => Array.from({ length: 20_000 }, (_, k) => ({ at: random(40_000 + k), count: 0, text }));
-  const began = performance.now();
-  const [first, second] = [some('a'), some('b')];
-  const [firstThen] = crossed(first, second);
-  assert.ok(performance.now() - began < 2_000);
+  let firstThen;
+  assert.ok(secondsOf(() => [firstThen] = crossed(some('a'), some('b'))) < 5);
   assert.equal(firstThen.reduce((sum, { text }) => sum + text.length, 0), 20_000);
 });
 
@@ -131,14 +137,14 @@ test('what differs', () => {
   }
 });
 
-test('what differs in 100,000 lines with a word changed in each takes seconds, and no line goes as a whole', () => {
+test('what differs in 20,000 lines with a word changed in each takes less than two seconds, and no line goes as a whole', () => {
   const words = 'lorem ipsum dolor sit amet consectetur adipiscing elit'.split(' ');
-  const lines = Array.from({ length: 100_000 }, () => Array.from({ length: 8 }, () => pick(words)));
+  const lines = Array.from({ length: 20_000 }, () => Array.from({ length: 8 }, () => pick(words)));
   const old = lines.map((x) => x.join(' ')).join('\n');
   for (const line of lines) line[random(8)] = 'changed';
-  const began = performance.now();
-  const { found } = compared(old, lines.map((x) => x.join(' ')).join('\n'));
-  assert.ok(performance.now() - began < 10_000);
+  const now = lines.map((x) => x.join(' ')).join('\n');
+  let found;
+  assert.ok(secondsOf(() => ({ found } = compared(old, now))) < 2);
   assert.ok(found.every(({ count, text }) => count < 12 && text.length < 8));
 });
 
@@ -215,6 +221,94 @@ test('two type at once, and what each shows is the text', async (t) => {
     await a.close();
     assert.equal(stored(a.folder), a.text);
   }
+});
+
+/** A program that also writes down what it is asked, and the lines that were asked since. */
+function listened() {
+  rooms += 1;
+  const [program, log] = [path.join(room, `listened-${rooms}`), path.join(room, `asked-${rooms}`)];
+  fs.writeFileSync(program, `#!/bin/bash\n[ "$1" = session ] || exec "${rls}" "$@"\ntee "${log}" | "${rls}" session\n`, { mode: 0o755 });
+  return { program, asked: () => fs.readFileSync(log, 'utf8').split('\n').filter((line) => /^[eid] /.test(line)) };
+}
+
+test('a change is one request with the third version, and otherwise what comes is asked for first', async (t) => {
+  const { program, asked } = listened();
+  const [folder] = folders(1);
+  const a = await Session.open(folder, { program });
+  t.after(() => a.kill());
+  await a.insert(0, 'one \u{1F600} three\n');
+  await a.replace(4, 2, 'two');
+  await a.setText('One two THREE\n');
+  await a.close();
+  assert.equal(stored(folder), 'One two THREE\n');
+  assert.deepEqual(
+    asked(),
+    a.version >= 3
+      ? ['e 0 0 one \u{1F600} three\\n', 'e 4 1 two', 'e 8 5 THREE', 'e 0 1 O']
+      : ['i 0 one \u{1F600} three\\n', 'i 5 two', 'd 4 1', 'i 13 THREE', 'd 8 5', 'i 1 O', 'd 0 1'],
+  );
+});
+
+test('passages that two members type at one place, with corrections, stay whole', async (t) => {
+  const all = await opened(t, 2);
+  if (all[0].version < 3) return t.skip('the program has no third version of the session');
+  await all[0].insert(0, 'Report: ');
+  await exchange(...all);
+  const passages = ['ada', 'ben'].map((name) => `${name} `.repeat(60));
+  for (const [k, a] of all.entries()) {
+    for (const c of passages[k]) {
+      a.insert(a.length, c);
+      if (random(8) === 0) {
+        a.insert(a.length, 'QX');
+        a.delete(a.length - 1, 1);
+        a.delete(a.length - 1, 1);
+        if (random(3) === 0) await a.insert(a.length, '');
+      }
+    }
+    await a.save();
+  }
+  const [mine, theirs] = [await all[0].message(1), await all[1].message(0)];
+  await all[0].take(theirs);
+  await all[1].take(mine);
+  assert.equal(all[0].text, all[1].text);
+  for (const passage of passages) assert.ok(all[0].text.includes(passage), 'a passage is whole');
+  assert.ok(mine.length < 3_000);
+  return undefined;
+});
+
+test('when to store', async (t) => {
+  const [a] = await opened(t, 1);
+  let now = 0;
+  a.clock = () => now;
+  assert.equal(a.storeDueIn(), null);
+  await a.insert(0, 'word');
+  assert.equal(a.storeDueIn(), 1_000);
+  now = 500;
+  await a.delete(3, 1);
+  assert.equal(a.storeDueIn(), 3_000);
+  now = 2_500;
+  await a.insert(3, 'k');
+  assert.equal(a.storeDueIn(), 500);
+  now = 2_750;
+  await a.delete(3, 1);
+  now = 5_000;
+  await a.delete(2, 1);
+  assert.equal(a.storeDueIn(), 1_000);
+  now = 7_000;
+  assert.equal(a.storeDueIn(), 0);
+  await a.save();
+  assert.equal(a.storeDueIn(), null);
+});
+
+test('a text of 3,000 changes is handed on, and others change it meanwhile', async (t) => {
+  const [a, b] = await opened(t, 2);
+  await a.setText('lorem ipsum\n'.repeat(3_000));
+  await exchange(a, b);
+  await b.insert(0, 'first\n');
+  const message = await b.message(0);
+  const taking = a.take(message);
+  await Promise.all([taking, a.setText('lorem Ipsum\n'.repeat(3_000))]);
+  assert.equal(a.text, `first\n${'lorem Ipsum\n'.repeat(3_000)}`);
 });
 
 test('an edit that is refused leaves the text of the program', async (t) => {

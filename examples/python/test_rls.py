@@ -7,11 +7,12 @@ import shutil
 import signal
 import subprocess
 import sys
+import time
 import unittest
 import warnings
 
 from room import HERE, Room
-from rls import Commands, Head, Mailbox, Refused, RlsError, Session, Stale, applied, changes, limits, script
+from rls import Change, Commands, Head, Mailbox, Refused, RlsError, Session, Stale, applied, changes, crossed, limits, place_after, script
 
 
 class Changes(unittest.TestCase):
@@ -27,6 +28,35 @@ class Changes(unittest.TestCase):
         self.assertEqual(changes("aaa", "aaaa"), [(3, 0, "a")])
         self.assertEqual(changes("x", "x"), [])
         self.assertEqual(script("ab", "a\\\nb"), ["i 1 \\\\\\n"])
+
+
+    def some(self, r, text):
+        found = []
+        for _ in range(r.randrange(5)):
+            at = r.randrange(len(text) + 1)
+            found.append(Change(at, min(r.randrange(5), len(text) - at), r.choice(["", "", "x", "yz", "😀"])))
+            text = applied(text, found[-1:])
+        return found
+
+    def test_what_two_changed_at_once(self):
+        r = random.Random(4)
+        for _ in range(2000):
+            first, second = self.some(r, "abcdefgh"), self.some(r, "abcdefgh")
+            first_then, second_then = crossed(first, second)
+            both = applied(applied("abcdefgh", first), second_then)
+            self.assertEqual(both, applied(applied("abcdefgh", second), first_then))
+            place = r.randrange(len(applied("abcdefgh", first)) + 1)
+            self.assertLessEqual(0, place_after(place, second_then))
+            self.assertLessEqual(place_after(place, second_then), place_after(place, second_then, behind=True))
+            self.assertLessEqual(place_after(place, second_then, behind=True), len(both))
+
+    def test_what_two_changed_at_once_in_time(self):
+        """The time of 8,000 changes on each side isn't the square of it."""
+        r = random.Random(5)
+        first, second = ([Change(r.randrange(20_000 + k), 0, x) for k in range(8_000)] for x in "ab")
+        began = time.process_time()
+        self.assertEqual(sum(len(x.text) for x in crossed(first, second)[0]), 8_000)
+        self.assertLess(time.process_time() - began, 8)
 
 
 class ByCommands(Room):

@@ -1,8 +1,9 @@
-"""Tests of sessions: `python3 -m unittest` in this folder.  First what both versions of the session have, then what only the second one has."""
+"""Tests of sessions: `python3 -m unittest` in this folder.  First what all versions of the session have, then what the second and the third add."""
 import os
 import random
 import signal
 import unittest
+from unittest import mock
 
 from room import Room
 from rls import Change, Commands, Groups, Head, Mailbox, Refused, RlsError, Session, applied, limits
@@ -309,6 +310,147 @@ class SecondVersion(Room):
         self.assertEqual(s.stat()["runs"], (1,))
         s.undo_group()
         self.assertEqual(s.text()[:3], "aXb")
+
+
+class ByChanges(Room):
+    """What only the third version has: an editor's changes, of which the session makes operations when it has to."""
+
+    def both(self):
+        a, b = self.two()
+        s, t = Session(a.folder), Session(b.folder)
+        self.addCleanup(t.kill)
+        self.addCleanup(s.kill)
+        if s.version < 3:
+            self.skipTest("the program has no third version of the session")
+        return s, t
+
+    def type_by_keys(self, s, rng, words):
+        """Types at the end, with errors that are taken back, and saves now and then, but not right after a deletion. The text as the writer sees it."""
+        text = s.text()
+        for word in words:
+            for c in word + " ":
+                if rng.random() < 0.1:
+                    wrong = "".join(rng.choice("QXZ") for _ in range(rng.choice([1, 1, 2, 3])))
+                    for k, d in enumerate(wrong):
+                        s.replace(len(text) + k, 0, d)
+                    for k in reversed(range(len(wrong))):
+                        if rng.random() < 0.2:
+                            s.replace(len(text) + k, 1, "")
+                        else:
+                            s.replace(len(text), k + 1, "")
+                            break
+                s.replace(len(text), 0, c)
+                text += c
+                if rng.random() < 0.05:
+                    s.save()
+        return text
+
+    def test_passages_at_one_place_stay_whole(self):
+        s, t = self.both()
+        s.insert(0, "Report: ")
+        t.take(s.message(1))
+        s.take(t.message(0))
+        one = self.type_by_keys(s, random.Random(1), ["ada"] * 100)
+        other = self.type_by_keys(t, random.Random(2), ["ben"] * 100)
+        self.assertEqual((s.text(), t.text()), (one, other))
+        mine, theirs = s.message(1), t.message(0)
+        s.take(theirs)
+        t.take(mine)
+        self.assertEqual(s.text(), t.text())
+        self.assertIn(one[8:], s.text())
+        self.assertIn(other[8:], s.text())
+        self.assertLess(len(mine), 3000)
+
+    def test_what_comes_to_nothing_is_no_operation(self):
+        s, _ = self.both()
+        for k, c in enumerate("word"):
+            s.replace(k, 0, c)
+        s.replace(2, 2, "")
+        s.replace(0, 2, "")
+        self.assertEqual((s.text(), s.head().counts), ("", (0, 0)))
+        s.replace(0, 0, "a")
+        s.replace(1, 0, "b")
+        s.replace(1, 1, "c")
+        self.assertEqual((s.text(), s.head().counts), ("ac", (1, 0)))
+
+    def test_refused_and_undone(self):
+        s, _ = self.both()
+        s.tell_changes()
+        s.replace(0, 0, "hello")
+        with self.assertRaises(Refused):
+            s.replace(5, 1, "x")
+        s.end_group()
+        s.replace(4, 1, "X")
+        self.assertEqual((s.undo_group(), s.text()), (2, "hello"))
+        self.assertEqual(applied("hellX", s.news()), "hello")
+
+    def test_a_client_that_goes_away_loses_nothing(self):
+        s, _ = self.both()
+        s.replace(0, 0, "abcX")
+        s.replace(3, 1, "")
+        s.input.close()
+        self.assertEqual(s.output.read(), b"saved\n")
+        s._finish()
+        self.assertEqual(s.stored.text(), "abc")
+
+    def asked(self, session):
+        """The lines that are asked from now on."""
+        lines, put = [], session._put
+        session._put = lambda data: (lines.append(data.decode().rstrip("\n")), put(data))[1]
+        return lines
+
+    def test_a_change_is_one_request(self):
+        s, _ = self.both()
+        lines = self.asked(s)
+        s.replace(0, 0, "one two three\n")
+        s.replace(4, 3, "")
+        s.set_text("One  THREE\n")
+        self.assertEqual([x for x in lines if x != "t"], ["e 0 0 one two three\\n", "e 4 3 ", "e 5 5 THREE", "e 0 1 O"])
+        self.assertEqual(s.text(), "One  THREE\n")
+
+
+class WithAnyProgram(Room):
+    def test_what_comes_is_put_behind_what_goes(self):
+        """A program without the third version is told two edits, in this order, so the run of identifiers goes on."""
+        a, _ = self.two()
+        with Session(a.folder) as s:
+            s.version = min(s.version, 2)
+            s.insert(0, "hello")
+            before = s.stat()["runs"] if s.version == 2 else None
+            for letter in "abcdefgh":
+                s.replace(4, 1, letter)
+            self.assertEqual(s.text(), "hellh")
+            if before:
+                self.assertLessEqual(s.stat()["runs"][0], before[0] + 1)
+            s.set_text("hell on earth")
+        self.assertEqual(a.text(), "hell on earth")
+        a.replace(5, 2, "in")
+        self.assertEqual(a.text(), "hell in earth")
+
+    def test_when_to_store(self):
+        """A second after the last change, and three after one that took something away; but not for ever."""
+        a, _ = self.two()
+        with Session(a.folder) as s, mock.patch("time.monotonic") as clock:
+            clock.return_value = 100.0
+            self.assertIsNone(s.store_due_in())
+            s.replace(0, 0, "word")
+            self.assertEqual(s.store_due_in(), 1.0)
+            clock.return_value = 100.5
+            s.replace(3, 1, "")
+            self.assertEqual(s.store_due_in(), 3.0)
+            clock.return_value = 102.5
+            s.replace(3, 0, "k")
+            self.assertEqual(s.store_due_in(), 0.5)
+            clock.return_value = 102.75
+            s.replace(3, 1, "")
+            self.assertEqual(s.store_due_in(), 3.0)
+            clock.return_value = 105.0
+            s.replace(2, 1, "")
+            self.assertEqual(s.store_due_in(), 1.0)
+            clock.return_value = 107.0
+            self.assertEqual(s.store_due_in(), 0.0)
+            s.save()
+            self.assertIsNone(s.store_due_in())
 
 
 if __name__ == "__main__":

@@ -7,7 +7,7 @@ from contextlib import contextmanager
 from typing import Any, Iterator, Optional, Sequence, Tuple
 
 from . import limits
-from .edits import deletion, insertion, no_surrogates, script
+from .edits import deletion, insertion, no_surrogates, replacement, script
 from .errors import Refused, RlsError
 from .folders import locked
 from .reports import Head, Report, Stat, stat_of
@@ -32,6 +32,10 @@ class Editing:
 
     def delete(self, at: int, count: int) -> None:
         self.edit(deletion(at, count))
+
+    def replace(self, at: int, count: int, text: str) -> None:
+        """Puts a text in place of so many characters."""
+        self.edit(replacement(at, count, no_surrogates(text)))
 
     def set_text(self, new: str) -> None:
         """Makes the least edits after which the text is this one."""

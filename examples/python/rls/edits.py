@@ -51,13 +51,15 @@ def changes(old: str, new: str) -> List[Change]:
     return [Change(*found) for found in reversed(replacements(old, new))]
 
 
+def replacement(at: int, count: int, text: str) -> List[str]:
+    """The lines that put a text in place of so many characters. What comes is put behind what goes, and then that goes: so the run of
+    identifiers that ends there goes on (examples/COMPARE.md)."""
+    return insertion(at + count, text) + deletion(at, count)
+
+
 def script(old: str, new: str) -> List[str]:
-    """The lines that make one text of another. What comes is put behind what goes, and then that goes: so the run of identifiers that ends
-    there goes on (examples/COMPARE.md)."""
-    lines: List[str] = []
-    for at, count, text in changes(old, new):
-        lines += insertion(at + count, text) + deletion(at, count)
-    return lines
+    """The lines that make one text of another."""
+    return [line for change in changes(old, new) for line in replacement(*change)]
 
 
 def no_surrogates(text: str) -> str:

@@ -7,3 +7,5 @@ MOST_CHARACTERS = 1_048_576          # of one insertion
 MOST_DELETED = 4_194_304             # of one deletion
 MOST_INPUT = 67_108_864              # of one command, and of what one session reads before it stores
 MOST_WAIT = 30.0                     # seconds that a call which stores waits for another program in the same folder
+REST, MOST_REST = 1.0, 3.0           # seconds from the last change that was typed to a store, and at most from the first one
+HOLD = 3.0                           # the same, if the last change took something away: what is put in its place comes then

@@ -1,12 +1,13 @@
 """A replica by one running `rls session` (docs/SESSION.md)."""
 import os
 import subprocess
+import time
 from types import TracebackType
 from typing import List, NoReturn, Optional, Sequence, Tuple, Type
 
 from . import limits
 from .commands import Commands, Editing
-from .edits import Change, change_of
+from .edits import Change, change_of, changes, escaped, no_surrogates
 from .errors import Refused, RlsError
 from .folders import locked
 from .reports import Groups, Head, Report, Stat, stat_of
@@ -20,7 +21,8 @@ class Session(Editing):
     What isn't stored may be handed to nobody: a crash would make this member forget its operations, and it would then give their numbers
     to other edits, which no member can tell. So `message` stores first if something was edited or taken since.
 
-    `version` says what the program speaks. With 1 it stores only at the end of a session: `save` ends one and begins another, and what
+    `version` says what the program speaks. With 3 `replace` and `set_text` hand each change on as it is: of those that go on with each other
+    the session makes one operation, or none, as soon as anything else is asked (docs/SESSION.md). With 1 it stores only at the end of a session: `save` ends one and begins another, and what
     `undo` could take back is gone. With 2 it stores and goes on, and there are groups of undo and redo, changes and more cursors; with 1
     those calls are an RlsError with status 4."""
 
@@ -29,6 +31,7 @@ class Session(Editing):
         self.timeout, self.safe = timeout, safe
         self.saving, self.unsaved, self.telling = False, False, False
         self.stored, self.changed = Commands(folder, program), limits.RENAME_AT
+        self.typed: Optional[Tuple[float, float, bool]] = None
         self._news: List[Change] = []
         # One lock for the whole life of this object: `save` ends one program and begins another, and nobody may come in between.
         self.stored.held = locked(self.folder, 0, ("session",))
@@ -49,8 +52,9 @@ class Session(Editing):
         self.given, self.unsaved = 0, False
 
     def _asked_version(self) -> int:
-        self._put(b"v\n")
-        return 2 if self._line() == "version 2" else 1
+        self._put(b"v 3\nv\n")
+        newest, old = self._line(), self._line()
+        return 3 if newest == "version 3" else 2 if old == "version 2" else 1
 
     def _release(self) -> None:
         if self.stored.held is not None:
@@ -135,6 +139,35 @@ class Session(Editing):
         for line in lines:
             self._ask(line)
             self._edited()
+            self._told_change(False)
+
+    def replace(self, at: int, count: int, text: str) -> None:
+        """A change of an editor: in place of so many characters from a place on comes this text. Each key may be one."""
+        if self.version < 3 or count > limits.MOST_DELETED or len(text) > limits.MOST_CHARACTERS:
+            super().replace(at, count, text)
+        elif count or text:
+            self._ask(f"e {at} {count} {escaped(no_surrogates(text))}")
+            self._edited()
+        self._told_change(count > 0 and not text)
+
+    def set_text(self, new: str) -> None:
+        for change in changes(self.text(), no_surrogates(new)):
+            self.replace(*change)
+            self._told_change(False)
+
+    def _told_change(self, is_taken: bool) -> None:
+        now = time.monotonic()
+        self.typed = (self.typed[0] if self.typed else now, now, is_taken)
+
+    def store_due_in(self) -> Optional[float]:
+        """In how many seconds it is well to store and to send, if nothing more is typed: 0 is now, and None says that nothing was. It is a
+        second after the last change, and three after the first one at the latest; three after a change that took something away, so that what
+        is put in its place becomes one change with it (docs/SESSION.md). Nothing else should be asked until then."""
+        if not self.typed:
+            return None
+        first, last, is_taken = self.typed
+        due = min(last + (limits.HOLD if is_taken else limits.REST), first + limits.MOST_REST + limits.HOLD * is_taken)
+        return max(0.0, due - time.monotonic())
 
     def _edited(self, count: int = 1) -> None:
         self.changed += count
@@ -176,7 +209,7 @@ class Session(Editing):
         self.telling = on
 
     def news(self) -> List[Change]:
-        """What changed since this was asked last, but for the edits that `insert`, `delete`, `edit` and `set_text` made themselves. Played in
+        """What changed since this was asked last, but for the edits that `insert`, `delete`, `replace`, `edit` and `set_text` made themselves. Played in
         order over the text as the caller has it, after those edits, they give the text. So ask after each call that edits or takes."""
         news, self._news = self._news, []
         return news
@@ -244,7 +277,7 @@ class Session(Editing):
 
     def save(self) -> None:
         """Stores. It renames if that is due; it looks only if an eighth of RENAME_AT has changed since it looked last."""
-        self.saving = True
+        self.saving, self.typed = True, None
         try:
             if self.version < 2:
                 self._begin_again()
