@@ -10,9 +10,11 @@ import sys
 import time
 import unittest
 import warnings
+from unittest import mock
 
 from room import HERE, Room
-from rls import Change, Commands, Head, Mailbox, Refused, RlsError, Session, Stale, applied, changes, crossed, limits, place_after, script
+import rls.tokens
+from rls import Change, Commands, Head, Mailbox, Refused, RlsError, Session, Stale, UsedTwice, applied, changes, crossed, limits, place_after, script
 
 
 class Changes(unittest.TestCase):
@@ -307,6 +309,139 @@ class ByCommands(Room):
             f.write(a.message(1))
         box.receive(b)
         self.assertEqual(b.text(), "hello")
+
+
+class Twice(Room):
+    """A number that two replicas use."""
+
+    def two_with_one_number(self):
+        """They don't see each other but by the shared folder."""
+        pair = [Commands.new(self.path(f"machine{k}"), 7, 0, 3) for k in range(2)]
+        for k, x in enumerate(pair):
+            x.insert(0, f"by {k}")
+        return pair
+
+    def test_told_at_once(self):
+        a, b = self.two_with_one_number()
+        boxes = [Mailbox(self.path("shared"), x.head()) for x in (a, b)]
+        boxes[0].sync(a)
+        there = sorted(os.listdir(self.path("shared")))
+        for call in boxes[1].sync, boxes[1].send, boxes[1].receive:
+            with self.assertRaisesRegex(UsedTwice, "number 0 of text 7 is used twice: another replica"):
+                call(b)
+        self.assertEqual(sorted(os.listdir(self.path("shared"))), there)
+        boxes[0].sync(a)
+        self.assertEqual(boxes[0].sync(a), ([], 0))
+
+    def test_between_machines(self):
+        """Each has a folder of its own, and a synchroniser copies files between them later: both are told."""
+        pair = self.two_with_one_number()
+        boxes = [Mailbox(self.path(f"shared{k}"), x.head()) for k, x in enumerate(pair)]
+        for box, x in zip(boxes, pair):
+            box.sync(x)
+        for name in os.listdir(boxes[0].folder):
+            if not os.path.exists(os.path.join(boxes[1].folder, name)):
+                shutil.copy2(os.path.join(boxes[0].folder, name), boxes[1].folder)
+        for name in os.listdir(boxes[1].folder):
+            shutil.copy2(os.path.join(boxes[1].folder, name), boxes[0].folder)
+        for box, x in zip(boxes, pair):
+            with self.assertRaises(UsedTwice):
+                box.sync(x)
+        # The way out: one of them goes on, once the file of the other one is gone.
+        found = [x for x in os.listdir(boxes[0].folder) if x.endswith(".member")]
+        os.unlink(os.path.join(boxes[0].folder, next(x for x in found if rls.tokens.written(pair[1].folder).token in x)))
+        pair[0].insert(0, "more " * 40)
+        self.assertEqual(boxes[0].sync(pair[0])[1], 2)
+
+    def test_copies(self):
+        """Two copies of one replica: the one that writes when the other has written is told."""
+        a = self.two()[0]
+        Mailbox(self.path("shared"), a.head()).sync(a)
+        shutil.copytree(a.folder, self.path("copy"))
+        b = Commands(self.path("copy"))
+        for x in (a, b):
+            x.insert(0, "mine")
+        Mailbox(self.path("shared"), a.head()).sync(a)
+        with self.assertRaisesRegex(UsedTwice, "a copy of this replica wrote there"):
+            Mailbox(self.path("shared"), b.head()).sync(b)
+
+    def test_by_a_message(self):
+        """An older client shows no token, but what it writes at the names of this number has too many operations."""
+        a, b = self.two_with_one_number()
+        b.insert(0, "more")
+        os.mkdir(self.path("shared"))
+        with open(self.path("shared", "7-0-1.rlsm"), "wb") as f:
+            f.write(b.message(1))
+        with self.assertRaisesRegex(UsedTwice, "more operations of this number"):
+            Mailbox(self.path("shared"), a.head()).sync(a)
+
+    def test_no_false_alarm(self):
+        """Several shared folders, an older state of one, and many programs at once."""
+        a, b = self.two()
+        for k in range(3):
+            a.insert(0, "x")
+            for shared in "one", "other":
+                Mailbox(self.path(shared), a.head()).sync(a)
+            if k == 0:
+                shutil.copytree(self.path("one"), self.path("before"))
+        shutil.rmtree(self.path("one"))
+        shutil.copytree(self.path("before"), self.path("one"))
+        self.assertEqual(Mailbox(self.path("one"), a.head()).sync(a)[1], 1)
+        code = f"for _ in range(4): rls.tokens.show({self.path('one')!r}, rls.Commands({a.folder!r}).head(), {a.folder!r})"
+        each = [subprocess.Popen([sys.executable, "-c", f"import rls, rls.tokens\n{code}"], env={**os.environ, "PYTHONPATH": HERE}) for _ in range(3)]
+        self.assertEqual([p.wait() for p in each], [0, 0, 0])
+        Mailbox(self.path("one"), a.head()).sync(a)
+
+
+class Idle(Room):
+    """A round in which nothing has changed starts no program."""
+
+    def test_forty_notes(self):
+        program = os.environ.get("RLS_PROGRAM") or None         # without the launcher it is a matter of seconds
+        notes = [Commands.new(self.path("notes", str(k)), 100 + k, 0, 4, program) for k in range(40)]
+        for k, note in enumerate(notes):
+            note.set_text(f"note {k}")
+
+        def round_of(folders):
+            return [Mailbox(self.path("shared"), note.head()).sync(note) for note in (Commands(x, program) for x in folders)]
+        folders = [note.folder for note in notes]
+        with mock.patch("subprocess.run", wraps=subprocess.run) as run:
+            for _ in range(3):
+                round_of(folders)
+            run.reset_mock()
+            self.assertEqual(round_of(folders), [([], 0)] * 40)
+            self.assertEqual(run.call_count, 0)
+            # What changes here or there is seen.
+            notes[3].insert(0, "my own words " * 20)
+            run.reset_mock()
+            self.assertEqual([sent for _, sent in round_of(folders)], [0] * 3 + [3] + [0] * 36)
+            self.assertLess(run.call_count, 8)
+            other = Commands.new(self.path("other"), 107, 1, 4, program)
+            other.insert(0, "theirs ")
+            Mailbox(self.path("shared"), other.head()).sync(other)
+            self.assertEqual([len(found) for found, _ in round_of(folders)], [0] * 7 + [1] + [0] * 32)
+        self.assertIn("theirs", notes[7].text())
+
+    def test_what_is_there_is_not_written_again(self):
+        a, b = self.two()
+        a.insert(0, "x")
+        box = Mailbox(self.path("shared"), a.head())
+        box.sync(a)
+        told = os.stat(box.path(0, 1))
+        again = Mailbox(self.path("shared"), a.head())
+        self.assertEqual(again.send(a), 0)
+        self.assertEqual(os.stat(box.path(0, 1)).st_ino, told.st_ino)
+
+    def test_a_session_that_is_not_stored(self):
+        a, b = self.two()
+        with Session(a.folder) as s:
+            box = Mailbox(self.path("shared"), s.head())
+            for _ in range(3):
+                box.sync(s)
+            self.assertTrue(box.is_idle(s))
+            s.insert(0, "x")
+            self.assertFalse(box.is_idle(s))
+            self.assertEqual(box.sync(s)[1], 1)
 
 
 class Package(Room):

@@ -12,10 +12,10 @@ from . import limits
 from .commands import Commands
 from .crossing import crossed, place_after
 from .edits import Change, applied, changes, script
-from .errors import Refused, RlsError, Stale
+from .errors import Refused, RlsError, Stale, UsedTwice
 from .mailbox import Mailbox
 from .reports import Groups, Head, Report
 from .session import Session
 
-__all__ = ["Change", "Commands", "Groups", "Head", "Mailbox", "Refused", "Report", "RlsError", "Session", "Stale", "applied", "changes", "crossed", "limits",
-           "place_after", "script"]
+__all__ = ["Change", "Commands", "Groups", "Head", "Mailbox", "Refused", "Report", "RlsError", "Session", "Stale", "UsedTwice", "applied", "changes",
+           "crossed", "limits", "place_after", "script"]

@@ -11,6 +11,7 @@ from .edits import deletion, insertion, no_surrogates, replacement, script
 from .errors import Refused, RlsError
 from .folders import locked
 from .reports import Head, Report, Stat, stat_of
+from .stored import State, head_of, state_of
 
 READING = "text", "ids", "stat", "send"      # the commands that store nothing, and so need no lock
 
@@ -128,8 +129,13 @@ class Commands(Editing):
         return stat_of(self._run("stat")[0])
 
     def head(self) -> Head:
-        """Who this is, and how many operations of each member were accepted."""
-        return Head.told(self.stat())
+        """Who this is, and how many operations of each member were accepted. It is read from the stored file, and starts no program."""
+        return head_of(self.folder) or Head.told(self.stat())
+
+    def state(self) -> State:
+        """Another value once anything was stored in this folder, by whomever. It starts no program, so a caller that keeps what `text` or
+        `stat` answered asks this first."""
+        return state_of(self.folder)
 
     def take(self, message: bytes) -> Report:
         out, line = self._run("take", data=message, fine=(0, 5))

@@ -1,5 +1,8 @@
 """What a call may raise."""
-from typing import Sequence
+from typing import TYPE_CHECKING, Sequence
+
+if TYPE_CHECKING:
+    from .reports import Head
 
 MEANINGS = {
     1: "the words are no command", 2: "there is no replica in this folder, or for `new` there is one", 3: "the replica's file is damaged",
@@ -24,3 +27,13 @@ class Refused(RlsError):
 class Stale(Exception):
     """Another member has more of this member's own operations than this member itself: its files were put back from a copy, made
     again with a number that was used, or two members have one number. Going on would part the texts for ever, with status 0."""
+
+
+class UsedTwice(Stale):
+    """Two replicas write with one number, or two copies of one. Nothing more is written into the shared folder."""
+
+    @classmethod
+    def by(cls, path: str, head: "Head", why: str) -> "UsedTwice":
+        return cls(f"number {head.sender} of text {head.group} is used twice: {why}, as {path} shows. Nothing more is sent from here. Keep what"
+                   " `rls text` prints, and begin in a new folder with a number that nobody has used; the other one goes on. If there is no"
+                   " other one, delete that file (docs/USE.md, \"A number used twice\")")

@@ -1,31 +1,36 @@
 """Messages through a folder that all members see."""
 import hashlib
+import json
 import os
 import struct
 import warnings
-from typing import Dict, List, Optional, Set, Tuple, Union
+from typing import Any, Dict, List, Optional, Set, Tuple, Union
 
-from . import limits
+from . import limits, tokens
 from .commands import Commands
-from .errors import RlsError, Stale
+from .errors import RlsError, Stale, UsedTwice
 from .folders import regular, replace, size_of
 from .reports import Head, Report
 from .session import Session
+from .stored import state_of
 
 Replica = Union[Commands, Session]
 Found = List[Tuple[int, Union[Report, RlsError]]]
 MOST_CURSOR = 65_536        # bytes of a file with a cursor
 MOST_NAME = 40              # characters of a name beside a cursor
+SYNCED = "replica.synced"   # what both folders were like when all was taken and sent
 
 
 class Mailbox:
     """A folder that all members see (Dropbox, Syncthing, a network drive, a clone of git, a stick).  A message holds all that its
     receiver isn't known to have, so only the latest from each member to each other is kept: `GROUP-FROM-TO.rlsm`.  It may be
-    replaced, lost, or come late or twice."""
+    replaced, lost, or come late or twice.
+
+    What shows that another replica writes with this number is UsedTwice, from every call, until its file is gone."""
 
     def __init__(self, folder: str, head: Head) -> None:
         self.folder, self.me, self.members = os.path.expanduser(folder), head.sender, head.members
-        self.group = head.group
+        self.head, self.group = head, head.group
         self.taken: Dict[int, bytes] = {}
         self.sent: Dict[int, bytes] = {}
         self.warned: Set[int] = set()
@@ -35,8 +40,17 @@ class Mailbox:
     def path(self, sender: int, to: int) -> str:
         return os.path.join(self.folder, f"{self.group}-{sender}-{to}.rlsm")
 
+    def names(self) -> List[str]:
+        """The names in the folder that are of this text."""
+        return [name for name in os.listdir(self.folder) if name.startswith(f"{self.group}-")]
+
+    def look(self, replica: Replica) -> None:
+        """UsedTwice if another replica writes with this number."""
+        tokens.look(self.folder, self.head, replica.folder, self.names())
+
     def receive(self, replica: Replica) -> Found:
         """The reports of all messages that are new here. What one member's name has that is no message stops no other's."""
+        self.look(replica)
         reports: Found = []
         own: Optional[Head] = None
         for sender in range(self.members):
@@ -80,18 +94,41 @@ class Mailbox:
         there = size_of(self.path(self.me, to))
         return there is not None and 2 * there > len(message) and not Head.of(message).counts[to] and size_of(self.path(to, self.me)) is None
 
+    def _is_there(self, to: int, message: bytes, mark: bytes, own: Head) -> bool:
+        """Whether this message is in the folder already. One of an older state of the folder has another size. UsedTwice if what is there was
+        written with this number, and not by this replica."""
+        path = self.path(self.me, to)
+        if self.sent.get(to) == mark and size_of(path) == len(message):
+            return True
+        try:
+            there = regular(path, limits.MOST_INPUT) or b""
+            head = Head.of(there)
+        except (RlsError, ValueError, struct.error):
+            return False
+        if there == message:
+            self.sent[to] = mark
+            return True
+        if (head.group, head.members, head.sender) == own[:3] and head.counts[self.me] > own.counts[self.me]:
+            raise UsedTwice.by(path, own, "it has more operations of this number than this replica has made")
+        return False
+
     def send(self, replica: Replica) -> int:
         """To how many members something new was written. What one member's name has that can't be replaced stops no other's: a warning
         says so once."""
+        self.look(replica)
         count = 0
+        own: Optional[Head] = None
         for to in range(self.members):
             if to == self.me:
                 continue
             message = replica.message(to)
             mark = hashlib.sha256(message).digest()
-            if self.sent.get(to) == mark and size_of(self.path(self.me, to)) == len(message) or self.is_enough(to, message):
-                continue                        # it is there: of an older state of the folder it would have another size
+            own = own or replica.head()
+            if self._is_there(to, message, mark, own) or self.is_enough(to, message):
+                continue
             try:
+                if not count:
+                    tokens.show(self.folder, self.head, replica.folder)
                 replace(self.path(self.me, to), message)
             except RlsError as e:
                 if to not in self.warned:
@@ -102,12 +139,40 @@ class Mailbox:
             count += 1
         return count
 
+    def _mark(self, replica: Replica) -> str:
+        """What the names, sizes and times in both folders are: one look, which starts no program."""
+        found = []
+        for name in sorted(self.names()):
+            try:
+                told = os.lstat(os.path.join(self.folder, name))
+                found.append((name, told.st_ino, told.st_size, told.st_mtime_ns))
+            except OSError:
+                continue
+        return summed((os.path.abspath(self.folder), limits.RENAME_AT, state_of(replica.folder), found))
+
+    def is_idle(self, replica: Replica) -> bool:
+        """Whether nothing has changed here or there since all was taken and sent, also by an earlier program."""
+        is_stored = not isinstance(replica, Session) or not replica.unsaved
+        return is_stored and noted(replica.folder).get("mark") == self._mark(replica)
+
     def sync(self, replica: Replica) -> Tuple[Found, int]:
         """Takes what came, renames if that is due, and sends what is new. Answers the reports, each a pair of the sender and a Report, or
-        the RlsError if its message couldn't be taken, and to how many members something was written."""
+        the RlsError if its message couldn't be taken, and to how many members something was written. Where nothing has changed it looks at
+        names and times alone, and starts no program."""
+        if self.is_idle(replica):
+            return [], 0
+        # A round in which nothing came and nothing went is what the next are compared with, as it was before it.
+        before, note = self._mark(replica), noted(replica.folder)
+        if note.get("state") == summed(state_of(replica.folder)):
+            for sender, mark in note.get("taken", {}).items():
+                self.taken.setdefault(int(sender), bytes.fromhex(mark))
         reports = self.receive(replica)
         replica.rename_if_due()
-        return reports, self.send(replica)
+        sent = self.send(replica)
+        taken = {sender: mark.hex() for sender, mark in self.taken.items()}
+        is_quiet = not reports and not sent and not self.warned
+        keep(replica.folder, {"mark": before if is_quiet else "", "state": summed(state_of(replica.folder)), "taken": taken})
+        return reports, sent
 
     # -- cursors, which no message has: a file for each member
     def cursor_path(self, member: int) -> str:
@@ -117,6 +182,7 @@ class Mailbox:
         """Tells the others where this member's cursor is, and a name to show beside it."""
         line = f"{session.place(at)} {shown(name)}".rstrip() + "\n"
         if line != self.shown:
+            self.look(session)
             replace(self.cursor_path(self.me), line.encode("utf-8"))
             self.shown = line
 
@@ -137,3 +203,25 @@ class Mailbox:
 def shown(name: str) -> str:
     """A name as it may be shown: without what a terminal would take for more than a letter, and not too long."""
     return "".join(x for x in name if x.isprintable())[:MOST_NAME].strip()
+
+
+def summed(value: object) -> str:
+    return hashlib.sha256(repr(value).encode("utf-8", "surrogateescape")).hexdigest()
+
+
+def noted(folder: str) -> Dict[str, Any]:
+    """What a round noted in the replica's folder."""
+    try:
+        with open(os.path.join(folder, SYNCED), encoding="ascii") as file:
+            found = json.load(file)
+    except (OSError, ValueError):
+        return {}
+    return found if isinstance(found, dict) else {}
+
+
+def keep(folder: str, note: Dict[str, Any]) -> None:
+    try:
+        with open(os.path.join(folder, SYNCED), "w", encoding="ascii") as file:
+            json.dump(note, file)
+    except OSError:
+        pass                                # then the next round looks again
