@@ -68,6 +68,12 @@ function rls#buffer#replace(r, first, count, lines) abort
   call rls#lines#splice(a:r.text, a:first, a:count, a:lines)
 endfunction
 
+" Shows these lines, where the replica has none as yet or is opened again.
+function rls#buffer#show(r, lines) abort
+  call deletebufline(a:r.buf, 1, '$')
+  call setbufline(a:r.buf, 1, a:lines)
+endfunction
+
 " Makes one change of the session in the buffer. Whole lines that come in at the beginning of a line, or go, leave the others as they are.
 function s:insert(r, cursors, at, text) abort
   let [line, byte] = rls#lines#find(a:r.text, a:at)
@@ -104,6 +110,7 @@ function rls#buffer#apply(r, changes) abort
     return -1
   endif
   let [cursors, first] = [s:cursors(a:r), -1]
+  let a:r.edition += 1
   let a:r.silent = 1
   try
     for change in a:changes
@@ -131,6 +138,7 @@ function rls#buffer#compare(r) abort
   if new ==# a:r.text.lines
     return
   endif
+  let a:r.edition += 1
   let levels = getbufvar(a:r.buf, '&undolevels')
   call setbufvar(a:r.buf, '&undolevels', -1)
   let a:r.silent = 1

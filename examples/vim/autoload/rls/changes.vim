@@ -1,45 +1,53 @@
-" From the buffer to the session: lines that were changed in the buffer are handed on as they are typed, as deletions and insertions of characters.
+" From the buffer to the session: what was changed in the buffer is compared with what was there, and handed on place by place.
 let s:most_steps = 5000                         " edits that are undone at once: a session forgets a group that has more than 10,000
 
 " From now on each change of the buffer is handed on.
 function rls#changes#listen(r) abort
   call listener_flush(a:r.buf)
+  let a:r.told = []
   let a:r.listener = listener_add(function('s:changed', [a:r]), a:r.buf)
 endfunction
 
-" What the editor tells: these lines were changed. The changes are of one time, so they are taken together.
+" What Vim tells: these lines were changed. One command may be told in several parts, `gq` first as lines that go and then as lines that come, so
+" what was told is put together, and compared once: when Vim waits for a key, or before the next request.
 function s:changed(r, buf, start, end, added, changes) abort
-  if !a:r.silent
-    call rls#try(function('s:tell'), a:buf, a:changes)
+  if a:r.silent || a:r.failed !=# ''
+    return
   endif
+  if empty(a:r.told)
+    call timer_start(0, {_ -> rls#try('rls#changes#flush', a:buf)})
+  endif
+  for change in a:changes
+    call s:widen(a:r, change)
+  endfor
 endfunction
 
-" Hands changes of lines to the session: at most one deletion and one insertion, or as much for each line if some have changed and none came or went.
-function s:tell(r, changes) abort
-  let [first, last, now] = [0, 0, 0]        " from `first` to before `last`, which is `now` in the buffer
-  for change in a:changes
-    if first == 0
-      let [first, last, now] = [change.lnum, change.end, change.end]
-    endif
-    let last += max([change.end - now, 0])
-    let now = max([change.end, now]) + change.added
-    let first = min([change.lnum, first])
-  endfor
+" `told` is the line from which, and the one before which lines were changed, and before which line of the buffer these end now.
+function s:widen(r, change) abort
+  let [first, last, now] = empty(a:r.told) ? [a:change.lnum, a:change.end, a:change.end] : a:r.told
+  let last += max([a:change.end - now, 0])
+  let a:r.told = [min([first, a:change.lnum]), last, max([a:change.end, now]) + a:change.added]
+endfunction
+
+" Hands on what was told and isn't handed on yet.
+function rls#changes#flush(r) abort
+  call listener_flush(a:r.buf)
+  if empty(a:r.told)
+    return
+  endif
+  let [first, last, now] = a:r.told
+  let a:r.told = []
   let last = min([last, len(a:r.text.lines) + 1])
   let new = now > first ? getbufline(a:r.buf, first, now - 1) : []
   if empty(new) && last - first == len(a:r.text.lines)
     let new = ['']
   endif
   let old = rls#lines#middle(a:r.text.lines, first - 1, len(a:r.text.lines) + 1 - last)
-  call s:replace(a:r, first, old, new)
+  call s:hand(a:r, first, old, new)
+  call rls#lines#splice(a:r.text, first, len(old), new)
 endfunction
 
-function s:replace(r, first, old, new) abort
-  call s:hand(a:r, a:first, a:old, a:new)
-  call rls#lines#splice(a:r.text, a:first, len(a:old), a:new)
-endfunction
-
-" Hands it on that these lines are now those: an insertion and a deletion for each place where they differ (examples/COMPARE.md).
+" Hands it on that these lines are now those: one change for each place where they differ (examples/COMPARE.md).
 function s:hand(r, first, old, new) abort
   let [first, old, new] = [a:first, copy(a:old), copy(a:new)]
   " One line of each, so that what is compared next are whole lines of both.
@@ -58,32 +66,62 @@ function s:hand(r, first, old, new) abort
     return
   endif
   let at = rls#lines#place(a:r.text, first)
-  if a:r.version == 2 && (a:r.boundary || a:r.steps >= s:most_steps)
-    call rls#session#send(a:r, 'g', 0z, {-> 0})
-    let a:r.steps = 0
-  endif
-  let a:r.boundary = 0
   let moved = 0
-  for [from, to, from_new, to_new] in rls#compare#Compared(gone, come)
-    " What comes is put behind what goes, and then that goes: so the run of identifiers that ends there goes on.
-    if to_new > from_new
-      call s:edit(a:r, rls#lines#insertion(at + to + moved, come[from_new : to_new - 1]))
-    endif
-    if to > from
-      call s:edit(a:r, printf('d %d %d', at + from + moved, to - from))
-    endif
+  if len(gone) + len(come) > 400000
+    echo 'rls: looking for what has changed'
+    redraw
+  endif
+  let places = rls#compare#Compared(gone, come)
+  for [from, to, from_new, to_new] in places
+    call s:end_group(a:r)
+    call s:replace(a:r, at + from + moved, to - from, to_new > from_new ? come[from_new : to_new - 1] : [])
     let moved += to_new - from_new - (to - from)
   endfor
+  let a:r.edition += 1
+  let a:r.is_cut = to_new == from_new
+  if rls#compare#WasCut()
+    echomsg 'rls: a change this large was compared line by line, not word by word'
+  endif
+  if len(places) > 2 * s:most_steps
+    echomsg printf('rls: of %d places that were changed, u takes back the last 10,000', len(places))
+  endif
   call rls#exchange#is_edited(a:r, 0)
 endfunction
 
+" Ends the group of undo, if another command begins or the group has enough steps.
+function s:end_group(r) abort
+  if a:r.version >= 2 && (a:r.boundary || a:r.steps >= s:most_steps)
+    call rls#session#put(a:r, 'g', 0z, {-> 0})
+    let a:r.steps = 0
+  endif
+  let a:r.boundary = 0
+endfunction
+
+" From a place on so many characters become these. With the third version of the session that is one request, and the session makes operations
+" of such changes when it has to. With an older one what comes is put behind what goes, and then that goes: so the run of identifiers that ends
+" there goes on.
+function s:replace(r, at, count, come) abort
+  if a:r.version >= 3
+    call s:edit(a:r, rls#lines#request(printf('e %d %d ', a:at, a:count), a:come))
+  else
+    if !empty(a:come)
+      call s:edit(a:r, rls#lines#request(printf('i %d ', a:at + a:count), a:come))
+    endif
+    if a:count > 0
+      call s:edit(a:r, printf('d %d %d', a:at, a:count))
+    endif
+  endif
+  let a:r.steps += (a:count > 0) + !empty(a:come)
+endfunction
+
 function s:edit(r, request) abort
-  let a:r.steps += 1
-  call rls#session#send(a:r, a:request, 0z, function('s:edited', [a:r]))
+  call rls#session#put(a:r, a:request, 0z, function('s:edited', [a:r]))
 endfunction
 
 function s:edited(r, reply, bytes, changes) abort
-  call rls#session#number(a:reply, 'ok')
+  if a:reply !=# 'ok'
+    call rls#session#number(a:reply, 'ok')
+  endif
   " The first change is the edit itself. More are rare, and come from operations that waited: the buffer may have gone on since.
   if len(a:changes) > 1
     let a:r.behind = 1
@@ -92,6 +130,19 @@ endfunction
 
 " What is typed from now on is undone by itself.
 function rls#changes#end_group(r) abort
-  call listener_flush(a:r.buf)
+  call rls#changes#flush(a:r)
   let a:r.boundary = 1
+endfunction
+
+" The lines of one text with what another one has beside: nothing of the first goes.
+function rls#changes#joined(lines, others) abort
+  let [gone, come] = [rls#lines#characters(a:lines), rls#lines#characters(a:others)]
+  let [all, passed] = [[], 0]
+  for [from, to, from_new, to_new] in rls#compare#Compared(gone, come)
+    if to_new > from_new
+      let all += (to > passed ? gone[passed : to - 1] : []) + come[from_new : to_new - 1]
+      let passed = to
+    endif
+  endfor
+  return rls#lines#of_characters(all + gone[passed :])
 endfunction

@@ -3,7 +3,10 @@ vim9script
 # places count them from 0.
 const STEPS = 128                       # members that go or come, after which it looks back and goes on from where it is
 const DEPTH = 12                        # anchors within anchors
+const SECONDS = 15                      # after which it goes on line by line
+const SPEED = 200000                    # characters that it compares by words in a second
 
+var begun = reltime()
 var spent = 0                           # steps of the search
 var cut = false                         # whether it went on by cheaper means
 var old: list<number>
@@ -11,6 +14,11 @@ var new: list<number>
 var at: number                          # what is before is done, in the old and in the new text
 var to: number
 var found: list<list<number>>           # where each replacement begins and ends in the old and in the new text
+
+# Whether there is no time left to compare so many characters.
+def IsLate(characters: number): bool
+  return reltimefloat(reltime(begun)) + characters / SPEED > SECONDS
+enddef
 
 def IsSpace(c: number): bool
   return c == 32 || (c >= 9 && c <= 13)
@@ -79,36 +87,37 @@ def Anchors(a: list<number>, b: list<number>, i: number, m: number, j: number, n
   const mine = Once(a, i, m, size)
   const other = Once(b, j, n, size)
   var pairs: list<list<number>> = []
-  var tops = [-1]
-  var ends = [-1]
+  # Vim finds a member of a list by counting from a neighbour, so what is looked up in halves is in dictionaries.
+  var tops: dict<number> = {}
+  var ends: dict<number> = {0: -1}
   var before: list<number> = []
+  var size_of_tops = 0
   for k in range(i, m - size)
     const key = Key(a, k, size)
     const y = get(other, key, -1)
     if y < 0 || mine[key] != k
       continue
     endif
-    var low = 1
-    var high = len(tops)
-    while low < high
-      const middle = (low + high) / 2
-      if tops[middle] < y
-        low = middle + 1
-      else
-        high = middle
-      endif
-    endwhile
-    add(before, ends[low - 1])
-    if low == len(tops)
-      add(tops, y)
-      add(ends, len(pairs))
-    else
-      tops[low] = y
-      ends[low] = len(pairs)
+    var low = size_of_tops + 1
+    if size_of_tops > 0 && y < tops[size_of_tops]
+      low = 1
+      var high = size_of_tops
+      while low < high
+        const middle = (low + high) / 2
+        if tops[middle] < y
+          low = middle + 1
+        else
+          high = middle
+        endif
+      endwhile
     endif
+    add(before, ends[low - 1])
+    size_of_tops = max([size_of_tops, low])
+    tops[low] = y
+    ends[low] = len(pairs)
     add(pairs, [k, y])
   endfor
-  var last = ends[-1]
+  var last = ends[size_of_tops]
   while last >= 0
     add(anchors, pairs[last])
     last = before[last]
@@ -234,7 +243,7 @@ def Runs(a: list<number>, b: list<number>, by_anchors: bool): list<list<number>>
       continue
     endif
     while i < m && j < n
-      runs = Search(a, b, i, m, j, n, spent < 300000 ? STEPS : spent < 1500000 ? 16 : 4)
+      runs = Search(a, b, i, m, j, n, IsLate(0) ? 4 : spent < 300000 ? STEPS : spent < 1500000 ? 16 : 4)
       const done = remove(runs, 0)[0] == 1
       if !done
         cut = true
@@ -272,10 +281,11 @@ def Align(olds: list<string>, news: list<string>, by_anchors: bool): list<list<n
   for x in olds
     is_old['x' .. x] = true
   endfor
-  const from = filter(range(len(olds)), (_, k) => has_key(numbers, 'x' .. olds[k]))
-  const end = filter(range(len(news)), (_, k) => has_key(is_old, 'x' .. news[k]))
-  const a = mapnew(from, (_, k) => numbers['x' .. olds[k]])
-  const b = mapnew(end, (_, k) => numbers['x' .. news[k]])
+  # With the type of its members each call sees at once what a list is, and doesn't look at all of them.
+  const from: list<number> = filter(range(len(olds)), (_, k) => has_key(numbers, 'x' .. olds[k]))
+  const end: list<number> = filter(range(len(news)), (_, k) => has_key(is_old, 'x' .. news[k]))
+  const a: list<number> = mapnew(from, (_, k) => numbers['x' .. olds[k]])
+  const b: list<number> = mapnew(end, (_, k) => numbers['x' .. news[k]])
   var pairs: list<list<number>> = []
   for run in Runs(a, b, by_anchors)
     for k in range(run[2])
@@ -405,6 +415,10 @@ enddef
 
 # Lines that aren't the same: by words, whatever is between them.
 def ByWords(first: number, m: number, second: number, n: number)
+  if IsLate(m - first + n - second)
+    cut = true
+    return
+  endif
   var front = 0
   const least = min([m - first, n - second])
   while front < least && old[first + front] == new[second + front]
@@ -450,8 +464,13 @@ def IsLineByLine(olds: list<string>, news: list<string>): bool
 enddef
 
 # Lines without their spaces. (`substitute` takes time with the square of what it finds.)
-def Keys(text: list<number>, ends: list<number>): list<string>
-  return mapnew(ends, (k, end) => list2str(filter(text[k > 0 ? ends[k - 1] : 0 : end - 1], (_, c) => !IsSpace(c))))
+def Keys(lines: list<string>): list<string>
+  return mapnew(lines, (_, line) => join(split(line, '[\x09-\x0d ]\+'), ''))
+enddef
+
+# The lines of a text that end at these places.
+def Lines(text: list<number>, ends: list<number>): list<string>
+  return mapnew(ends, (k, end) => list2str(text[k > 0 ? ends[k - 1] : 0 : end - 1]))
 enddef
 
 # Where two texts, which are lists of characters, differ, from the first place to the last: where each begins and ends in the old and in the new text.
@@ -461,13 +480,14 @@ export def Compared(gone: list<number>, come: list<number>): list<list<number>>
   new = index(come, 0) < 0 ? come : mapnew(come, (_, c) => c == 0 ? 0x110000 : c)
   at = 0
   to = 0
+  begun = reltime()
   spent = 0
   cut = false
   found = []
   const olds = Ends(old, 0, len(old), true)
   const news = Ends(new, 0, len(new), true)
-  const lines = [mapnew(olds, (k, end) => list2str(old[k > 0 ? olds[k - 1] : 0 : end - 1])), mapnew(news, (k, end) => list2str(new[k > 0 ? news[k - 1] : 0 : end - 1]))]
-  const keys = [Keys(old, olds), Keys(new, news)]
+  const lines = [Lines(old, olds), Lines(new, news)]
+  const keys = [Keys(lines[0]), Keys(lines[1])]
   var [a, b, i, j] = [0, 0, 0, 0]
   for [x, y] in add(Align(keys[0], keys[1], true), [len(olds), len(news)])
     const p = x > 0 ? olds[x - 1] : 0

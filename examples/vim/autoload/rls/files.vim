@@ -20,6 +20,29 @@ function rls#files#read(path, most) abort
   return [readblob(a:path)]
 endfunction
 
+" The first line of a small file; '' if there is none.
+function s:line_of(path) abort
+  return getftype(a:path) ==# 'file' && getfsize(a:path) < 4096 ? get(readfile(a:path, '', 1), 0, '') : ''
+endfunction
+
+" Who has a replica open, as the file `.rls-editor` in its folder says, which the editors' plugins write there: such as `Vim (4711)`. '' if it
+" doesn't say, or if that one has ended.
+function rls#files#holder(folder) abort
+  let [all, pid, program; _] = matchlist(s:line_of(a:folder . '/.rls-editor'), '^\(\d\+\) \([[:print:]]\{1,40}\)$') + ['', '', '']
+  return all ==# '' || (isdirectory('/proc/self') && !isdirectory('/proc/' . pid)) ? '' : printf('%s (%d)', program, pid)
+endfunction
+
+" Says, or says no more, that this Vim has a replica open.
+function rls#files#hold(folder) abort
+  silent! call writefile([getpid() . ' Vim'], a:folder . '/.rls-editor')
+endfunction
+
+function rls#files#let_go(folder) abort
+  if s:line_of(a:folder . '/.rls-editor') ==# getpid() . ' Vim'
+    call delete(a:folder . '/.rls-editor')
+  endif
+endfunction
+
 " Writes a file so that whoever reads it sees none, or the old or the new one. It is made under a name that nobody can know before, so nobody
 " can have put a link there, and a link at its own name is replaced and not written through.
 function rls#files#write(path, data) abort
@@ -30,6 +53,11 @@ function rls#files#write(path, data) abort
   try
     let answer = writefile(a:data, new, 's')
     let answer = answer ? answer : rename(new, a:path)
+  catch /^Vim(let):E/
+    " Vim names the file, whose name nobody knows, and not what the system says.
+    let folder = fnamemodify(a:path, ':h')
+    throw filewritable(folder) == 2 ? 'rls: it can not be written: ' . matchstr(v:exception, '^Vim(let):E\d*: \zs[^/"]*')
+          \ : 'rls: you may not write into the shared folder (' . getfperm(folder) . ')'
   finally
     call delete(new)
   endtry

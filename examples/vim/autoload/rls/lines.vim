@@ -110,13 +110,29 @@ function s:utf8(c) abort
   return [0xf0 + a:c / 262144, 0x80 + a:c / 4096 % 64, 0x80 + a:c / 64 % 64, 0x80 + a:c % 64]
 endfunction
 
-" The request that inserts these characters: a string, or a blob if there is a NUL, which no string of Vim has.
-function rls#lines#insertion(at, characters) abort
-  let head = 'i ' . a:at . ' '
+" The lines of characters.
+function rls#lines#of_characters(characters) abort
+  let [lines, from] = [[], 0]
+  while from <= len(a:characters)
+    let feed = index(a:characters, 10, from)
+    let end = feed < 0 ? len(a:characters) : feed
+    call add(lines, end > from ? list2str(map(a:characters[from : end - 1], {_, c -> c == 0 ? 10 : c})) : '')
+    let from = end + 1
+  endwhile
+  return lines
+endfunction
+
+" A text with another spelling of each of these characters. (`substitute` takes time with the square of what it finds.)
+function s:spelled(text, character, spelling) abort
+  return stridx(a:text, a:character) < 0 ? a:text : join(split(a:text, a:character, 1), a:spelling)
+endfunction
+
+" A request with these characters at its end: a string, or a blob if there is a NUL, which no string of Vim has.
+function rls#lines#request(head, characters) abort
   if index(a:characters, 0) < 0
-    return head . substitute(substitute(escape(list2str(a:characters), '\'), "\n", '\\n', 'g'), "\r", '\\r', 'g')
+    return a:head . s:spelled(s:spelled(escape(list2str(a:characters), '\'), "\n", '\n'), "\r", '\r')
   endif
-  let bytes = str2list(head)
+  let bytes = str2list(a:head)
   for c in a:characters
     call extend(bytes, c == 10 ? [92, 110] : c == 13 ? [92, 114] : c == 92 ? [92, 92] : s:utf8(c))
   endfor

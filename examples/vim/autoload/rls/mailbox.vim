@@ -1,6 +1,6 @@
 " What a replica does in the shared folder. One file for each sender and receiver: a message has all that its receiver isn't known to have, so the
 " latest is enough. And one for each member's cursor.
-let s:most_message = 67108864 - 4096
+let s:most_message = 67108864
 let s:most_cursor = 65536
 
 function s:path(r, from, to) abort
@@ -63,8 +63,13 @@ function rls#mailbox#take(r, from, changes) abort
     return 0
   endif
   call s:guard(a:r, message, a:from)
-  let [reply, _, told] = rls#session#ask(a:r, 'm ' . len(message), message)
-  call extend(a:changes, told)
+  let request = 'm ' . len(message)
+  if rls#exchange#make_room(a:r, len(request) + 1 + len(message))
+    let [reply, _, told] = rls#session#ask(a:r, request, message)
+    call extend(a:changes, told)
+  else
+    let reply = rls#exchange#take_by_command(a:r, message)
+  endif
   " What was refused once is refused again.
   let a:r.taken[a:from] = message
   call s:note(a:r, 'of ' . a:from, reply =~# 'held 0 refused 0' ? '' : reply)
@@ -148,12 +153,17 @@ function rls#mailbox#show_cursor(r) abort
   if bufnr('%') != a:r.buf
     return
   endif
+  call rls#changes#flush(a:r)
   let place = rls#lines#place(a:r.text, line('.')) + strchars(strpart(getline('.'), 0, col('.') - 1))
   if place == a:r.shown
     return
   endif
   let a:r.shown = place
-  let word = matchstr(rls#session#ask(a:r, 'a ' . place)[0], '^anchor \zs\S\+$')
+  call rls#session#send(a:r, 'a ' . place, 0z, function('s:tell_cursor', [a:r]))
+endfunction
+
+function s:tell_cursor(r, reply, bytes, changes) abort
+  let word = matchstr(a:reply, '^anchor \zs\S\+$')
   let line = word . (g:rls_name ==# '' ? '' : ' ' . substitute(g:rls_name, '[[:cntrl:]]', '', 'g'))
   if word !=# '' && line !=# a:r.cursor
     let a:r.cursor = line
@@ -186,13 +196,22 @@ function rls#mailbox#show_others(r) abort
     let word = get(a:r.places, from, '')
     if is_new || (a:r.is_lookup_due && word !=# '')
       call s:unmark(a:r, from)
-      let reply = word ==# '' ? '' : rls#session#ask(a:r, 'l ' . word)[0]
-      if reply =~# '^cursor \d\+$'
-        call s:mark(a:r, from, str2nr(reply[7:]))
+      if word !=# ''
+        call rls#session#send(a:r, 'l ' . word, 0z, function('s:show_other', [a:r, from, a:r.edition]))
       endif
     endif
   endfor
   let a:r.is_lookup_due = 0
+endfunction
+
+function s:show_other(r, from, edition, reply, bytes, changes) abort
+  " If the text is another one by now, it is asked for again.
+  if !empty(a:r.told) || a:r.edition != a:edition
+    let a:r.is_lookup_due = 1
+  elseif a:reply =~# '^cursor \d\+$'
+    call s:unmark(a:r, a:from)
+    call s:mark(a:r, a:from, str2nr(a:reply[7:]))
+  endif
 endfunction
 
 function s:unmark(r, from) abort

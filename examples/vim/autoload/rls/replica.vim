@@ -8,7 +8,7 @@ endfunction
 
 " Which member this is: the head of a message tells it. A message to oneself has a head alone.
 function s:learn(r) abort
-  let me = a:r.version == 2 ? str2nr(matchstr(rls#session#stat(a:r), 'me \zs\d\+')) : 0
+  let me = a:r.version >= 2 ? str2nr(matchstr(rls#session#stat(a:r), 'me \zs\d\+')) : 0
   let a:r.head = rls#session#ask(a:r, 's ' . me)[1]
   let [a:r.members, a:r.me, a:r.group] = [rls#files#u32(a:r.head, 13), rls#files#u32(a:r.head, 17), 0]
   for byte in blob2list(a:r.head[5:12])
@@ -20,7 +20,7 @@ endfunction
 " A replica with its session, which has no buffer as yet.
 function rls#replica#new(folder, shared) abort
   let r = {'folder': rls#replica#full(a:folder), 'shared': rls#replica#full(a:shared), 'taken': {}, 'sent': {}, 'seen': {}, 'problems': {}, 'failed': '',
-        \ 'unsaved': 0, 'since': reltime(), 'changes': g:rls_rename_at, 'told': 0, 'silent': 0, 'boundary': 0, 'steps': 0, 'behind': 0, 'due': -1, 'shown': -1,
+        \ 'unsaved': 0, 'since': 0, 'waits_until': 0, 'is_cut': 0, 'told': [], 'edition': 0, 'is_opening': 1, 'fault': '', 'changes': g:rls_rename_at, 'is_refusal_told': 0, 'silent': 0, 'boundary': 0, 'steps': 0, 'behind': 0, 'due': -1, 'shown': -1,
         \ 'cursor': '', 'places': {}, 'is_lookup_due': 0, 'last': {}, 'marks': {}, 'looked': 0, 'is_away': 0}
   if !isdirectory(r.folder)
     throw 'rls: there is no folder ' . r.folder
@@ -30,45 +30,75 @@ function rls#replica#new(folder, shared) abort
   elseif &encoding !=# 'utf-8'
     throw 'rls: Vim has to work in UTF-8: put `set encoding=utf-8` into your vimrc'
   endif
+  call s:keep_apart(r.folder, r.shared)
   if !isdirectory(r.shared)
-    call mkdir(r.shared, 'p')
-    echomsg 'rls: the shared folder was not there and was made'
+    call mkdir(r.shared, 'p', 0o777)
+    echomsg 'rls: the shared folder was not there and was made' . (getfperm(r.shared)[4] ==# 'w' ? '' : '; nobody else on this machine may write into it')
   endif
-  call rls#session#start(r)
   try
+    call rls#session#start(r)
     call s:learn(r)
   catch
-    call job_stop(r.job)
-    throw substitute(v:exception, '^Vim', 'rls: Vim', '')
+    if has_key(r, 'job')
+      call job_stop(r.job)
+    endif
+    throw v:exception =~# '^Vim:Interrupt' ? 'rls: given up' : substitute(v:exception, '^Vim', 'rls: Vim', '')
   endtry
+  let r.is_opening = 0
+  call rls#files#hold(r.folder)
   return r
+endfunction
+
+" The files of a replica are its member's own: with the messages, others would write over them, and a synchroniser would put older ones there.
+function s:keep_apart(folder, shared) abort
+  let [folder, shared] = [resolve(a:folder), resolve(a:shared)]
+  if folder ==# shared || stridx(folder, shared . '/') == 0
+    throw 'rls: the shared folder needs to be another one, in which the folder of the replica is not'
+  endif
 endfunction
 
 " Opens the replica of a buffer again after a fault. What was typed and isn't in the replica is put in again; nothing is deleted, since what isn't
 " in the buffer may be of others.
 function rls#replica#open_again(r) abort
-  silent! call ch_close_in(a:r.job)
-  call rls#session#start(a:r)
-  let [a:r.failed, a:r.behind, a:r.boundary, a:r.unsaved, a:r.taken, a:r.seen] = ['', 0, 1, 0, {}, {}]
-  for from in range(a:r.members)
-    call rls#mailbox#take(a:r, from, [])
-  endfor
-  let [shown, stored] = [getline(1, '$'), rls#session#lines_of(rls#session#text(a:r))]
-  let [front, end] = rls#lines#common(stored, shown)
+  call rls#replica#end(a:r)
+  if !isdirectory(a:r.folder)
+    throw 'rls: there is no folder ' . a:r.folder
+  endif
+  try
+    call rls#session#start(a:r)
+    let [a:r.behind, a:r.boundary, a:r.is_cut, a:r.unsaved, a:r.taken, a:r.seen, a:r.told] = [0, 1, 0, 0, {}, {}, []]
+    for from in range(a:r.members)
+      call rls#mailbox#take(a:r, from, [])
+    endfor
+    let stored = rls#session#lines_of(rls#session#text(a:r))
+  catch
+    call job_stop(a:r.job)
+    throw v:exception =~# '^Vim:Interrupt' ? 'rls: given up' : v:exception
+  endtry
+  let a:r.failed = ''
+  call rls#files#hold(a:r.folder)
+  let shown = getbufline(a:r.buf, 1, '$')
+  let joined = rls#changes#joined(stored, shown)
   let a:r.silent = 1
-  call deletebufline(a:r.buf, 1, '$')
-  call setline(1, stored)
+  if joined !=# shown
+    call rls#buffer#show(a:r, joined)
+  endif
   call listener_flush(a:r.buf)
-  let a:r.silent = 0
-  let a:r.text = rls#lines#new(stored)
-  let [gone, come] = [rls#lines#middle(stored, front, end), rls#lines#middle(shown, front, end)]
-  if len(gone) == 1 && len(come) == 1
-    let [one, other] = [rls#lines#characters(gone), rls#lines#characters(come)]
-    let [first, tail] = rls#lines#common(one, other)
-    let middle = list2str(rls#lines#middle(other, first, tail))
-    call setline(front + 1, list2str(one[: first - 1][: first - 1]) . middle . list2str(one[first :]))
-  elseif !empty(come)
-    call append(front, come)
+  let [a:r.silent, a:r.text] = [0, rls#lines#new(stored)]
+  if joined !=# stored
+    let a:r.told = [1, len(stored) + 1, len(joined) + 1]
   endif
   call rls#exchange#begin(a:r)
+endfunction
+
+" Ends a session with which something is wrong. At the end of its input it stores, and then the folder is free; one that does nothing is killed.
+function rls#replica#end(r) abort
+  silent! call ch_close_in(a:r.job)
+  for _ in range(30)
+    if job_status(a:r.job) !=# 'run'
+      return
+    endif
+    sleep 100m
+  endfor
+  call job_stop(a:r.job, 'kill')
 endfunction

@@ -5,19 +5,35 @@
 function rls#session#start(r) abort
   let a:r.errors = get(a:r, 'errors', tempname())
   let a:r.job = job_start([g:rls_program, 'session'], {'cwd': a:r.folder, 'mode': 'raw', 'noblock': 1, 'drop': 'never', 'err_io': 'file', 'err_name': a:r.errors})
-  let a:r.have = 0z
-  let a:r.waiting = []
-  let a:r.telling = 0
-  let a:r.given = 0
+  let [a:r.have, a:r.waiting, a:r.telling, a:r.given, a:r.heard, a:r.is_begun] = [0z, [], 0, 0, reltime(), 0]
+  let third = []
+  call rls#session#put(a:r, 'v 3', 0z, {reply, _, __ -> add(third, reply)})
   let a:r.telling = rls#session#ask(a:r, 'v')[0] ==# 'version 2' && rls#session#ask(a:r, 'c 1')[0] ==# 'telling 1'
-  let a:r.version = a:r.telling ? 2 : 1
+  let a:r.version = !a:r.telling ? 1 : third == ['version 3'] ? 3 : 2
+endfunction
+
+" Whether other requests can be sent: if not, the program says why.
+function rls#session#check(r) abort
+  if ch_status(a:r.job) !=# 'open'
+    call s:silent(a:r)
+  endif
 endfunction
 
 " Sends a request, a string or a blob without its line feed, with the bytes that belong to it. The function gets the first line of its reply, the
 " bytes after it, and the lines of changes, where those are told.
+" What was changed in the buffer is handed on before.
 function rls#session#send(r, request, data, Handler) abort
-  if ch_status(a:r.job) !=# 'open'
-    call s:silent(a:r)
+  if has_key(a:r, 'listener')
+    call rls#changes#flush(a:r)
+  endif
+  call rls#session#put(a:r, a:request, a:data, a:Handler)
+endfunction
+
+" The same, and what was changed in the buffer stays as it is.
+function rls#session#put(r, request, data, Handler) abort
+  call rls#session#check(a:r)
+  if empty(a:r.waiting)
+    let a:r.heard = reltime()
   endif
   let kind = type(a:request) == v:t_blob ? nr2char(a:request[0]) : a:request[0]
   call add(a:r.waiting, [kind, a:Handler])
@@ -47,9 +63,7 @@ function rls#session#drain(r) abort
     call s:read_more(a:r)
     call rls#session#pump(a:r)
   endwhile
-  if ch_status(a:r.job) !=# 'open'
-    call s:silent(a:r)
-  endif
+  call rls#session#check(a:r)
 endfunction
 
 " Hands on the replies that have come, without waiting.
@@ -67,6 +81,7 @@ function rls#session#pump(r) abort
       return
     endif
     let Handler = remove(a:r.waiting, 0)[1]
+    let [a:r.heard, a:r.is_begun] = [reltime(), 1]
     call Handler(found[0], found[1], found[2])
   endwhile
 endfunction
@@ -115,10 +130,16 @@ function rls#session#lines_of(blob) abort
   return empty(lines) ? [''] : lines
 endfunction
 
-" Waits for more of the session's output, as long as the program works: it may wait for another command in the folder. Ctrl-C ends that.
+" How many seconds a reply is waited for.
+function rls#session#waits(r) abort
+  return empty(a:r.waiting) ? 0 : float2nr(reltimefloat(reltime(a:r.heard)))
+endfunction
+
+" Waits for more of the session's output, as long as the program works: it may wait for another command in the folder. Ctrl-C ends that: Vim
+" looks for it while it sleeps, and not while it reads.
 function s:read_more(r) abort
-  let more = ch_readblob(a:r.job, {'timeout': 2000})
-  let told = 0
+  let [begun, told] = [reltime(), 0]
+  let more = ch_readblob(a:r.job, {'timeout': 100})
   while len(more) == 0
     if job_status(a:r.job) !=# 'run'
       let more = ch_status(a:r.job, {'part': 'out'}) =~# 'open\|buffered' ? ch_readblob(a:r.job, {'timeout': 100}) : 0z
@@ -127,17 +148,46 @@ function s:read_more(r) abort
       endif
       break
     endif
-    let told = 1
-    redraw
-    echo 'rls: waiting for the program; Ctrl-C gives up'
-    redrawstatus
-    let more = ch_readblob(a:r.job, {'timeout': 1000})
+    sleep 1m
+    call s:look_at_keys(a:r)
+    if float2nr(reltimefloat(reltime(begun))) > told + 1
+      let told += 1
+      redraw
+      echo s:waits_for(a:r)
+      redrawstatus
+    endif
+    let more = ch_readblob(a:r.job, {'timeout': 100})
   endwhile
   if told
     redraw
     echo
   endif
   let a:r.have = a:r.have + more
+endfunction
+
+" Whether the launcher has said that it waits for another one in the folder.
+function s:is_locked(r) abort
+  return !a:r.is_begun && s:errors(a:r) =~# 'waiting for it'
+endfunction
+
+function s:waits_for(r) abort
+  if !s:is_locked(a:r)
+    return 'rls: waiting for the program; Ctrl-C gives up'
+  endif
+  let holder = rls#files#holder(a:r.folder)
+  return printf('rls: waiting for %s in this folder. Ctrl-C gives up%s', holder ==# '' ? 'the program' : holder, a:r.is_opening ? ', r shows the text' : '')
+endfunction
+
+" While a replica is opened whose folder another one has, `r` opens its text to be read alone.
+function s:look_at_keys(r) abort
+  if a:r.is_opening && s:is_locked(a:r)
+    let key = getchar(0)
+    if key == 3
+      throw 'Vim:Interrupt'
+    elseif key == char2nr('r')
+      throw 'rls: to be read'
+    endif
+  endif
 endfunction
 
 " What the session has written to standard error.
@@ -161,7 +211,7 @@ endfunction
 
 " What `rls stat` prints: of the stored file with the first version.
 function rls#session#stat(r) abort
-  if a:r.version == 2
+  if a:r.version >= 2
     return list2str(blob2list(rls#session#ask(a:r, 'n')[1]))
   endif
   let job = job_start([g:rls_program, 'stat'], {'cwd': a:r.folder, 'mode': 'raw', 'err_io': 'null'})
