@@ -138,10 +138,10 @@ play_typing() {
 play_all() {
   local name command=$1 odd=$2
   local -a names=("${@:3}")
-  [ ${#names[@]} -gt 0 ] || names=(random typing undo beside elsewhere cursors places away copy empty again kill waiting killed odd)
+  [ ${#names[@]} -gt 0 ] || names=(random typing undo beside elsewhere cursors places heap away copy empty again kill waiting killed odd)
   for name in "${names[@]}"; do
     case $name in
-      undo | beside | elsewhere | cursors | places | copy) if is_second; then "play_$name" "$command"; else echo "skipped $name: it needs the second version of the session"; fi ;;
+      undo | beside | elsewhere | cursors | places | heap | copy) if is_second; then "play_$name" "$command"; else echo "skipped $name: it needs the second version of the session"; fi ;;
       odd) play_odd "$odd" ;;
       *) "play_$name" "$command" ;;
     esac
@@ -357,6 +357,9 @@ write_copy() { keys ":w $1" Enter; }
 read_again() { keys ':e!' Enter; }
 substitute() { keys ':%s/e/E/g' Enter; }
 fill() { keys ':set tw=40' Enter 4G gqG; }
+heap_fill() { keys ':set tw=60' Enter gg gqG; }
+heap_double() { keys ':%s/ /  /g' Enter; }
+heap_filter() { keys ':%!sed "s/\\<lorem\\>/LOREM/g"' Enter; }
 at_third_line() { type_text '3G0'; }
 shows_name() { :; }
 place_marks() { keys '5G0ma' ':8,9fold' Enter '11G0wve'; }

@@ -136,6 +136,58 @@ play_places() {
   same_texts
 }
 
+# A text of so many lines of eight words, with an empty line after each 50. Few of its words are there once.
+many_lines() {
+  awk -v lines="$1" 'BEGIN { split("lorem ipsum dolor sit amet consectetur adipiscing elit sed do eiusmod tempor incididunt ut labore et dolore magna aliqua enim", word, " "); r = 7
+    for (k = 1; k <= lines; k++) { line = ""; for (n = 1; n <= 8; n++) { r = (r * 16807) % 2147483647; line = line (n > 1 ? " " : "") word[r % 20 + 1] } if (r % 3 == 0) line = line k
+      print line; if (k % 50 == 0) print "" } }'
+}
+
+# The words of a text, whatever is between them.
+words_of() { tr -s ' \n' '\n\n'; }
+
+# What one command changes in many lines, while another member has written at five places and not sent it as yet: then each of the five sentences
+# stands between the words between which it was written, and an undo leaves it there. $1 begins the editor; the others are how many lines, and what
+# the command is. The editor's test says how by heap_fill (lines of 60), heap_double (two spaces for one) and heap_filter (LOREM for lorem, by sed).
+heap() {
+  local size=$2 what=$3 change=''
+  [ "$what" != filter ] || change='s/^lorem$/LOREM/'
+  replicas
+  many_lines "$size" >"$room/lines"
+  (cd "$room/ben" && "$RLS" edit --text "$room/lines" >/dev/null && "$RLS" send 0 >"$room/shared/7-1-0.rlsm")
+  begin "$1"
+  shows 'the status line' 'member 0 of 2' >/dev/null
+  shows 'the text' ' dolor' >/dev/null
+  hold_back
+  never_idle
+  awk -v lines="$size" 'BEGIN { split("ALPHA BRAVO CHARLIE DELTA ECHO", name, " "); k = 1 }
+    NF && k <= 5 && NR > k * lines / 6 { sub(" ", " <<" name[k++] " by Ben>> ") } { print }' "$room/lines" >"$room/written"
+  (cd "$room/ben" && "$RLS" edit --text "$room/written" >/dev/null)
+  "heap_$what"
+  store
+  ben_words() { ben_takes; ben_text | words_of | cksum; }
+  wait_for "$what of $size lines leaves what another member has written in between" "$(words_of <"$room/written" | sed "$change" | cksum)"$'\n' ben_words
+  if [ "$size" -le 400 ]; then
+    (cd "$room/ben" && "$RLS" send 0 >"$room/shared/.new" && mv "$room/shared/.new" "$room/shared/7-1-0.rlsm")
+    store
+    undo
+    store
+    wait_for 'and so does an undo of it' "$(cksum <"$room/written")"$'\n' ben_sum
+  fi
+  leave_editor
+  is_free() { (cd "$room/ada" && flock -n . true && echo yes); }
+  wait_for 'the folder is free' $'yes\n' is_free >/dev/null
+  leave_tmux
+}
+ben_sum() { ben_takes; ben_text | cksum; }
+
+play_heap() {
+  local size
+  for size in 6 30 400 1100 5000; do heap "$1" "$size" fill; done
+  for size in 30 1100 5000; do heap "$1" "$size" double; done
+  for size in 400 5000; do heap "$1" "$size" filter; done
+}
+
 # The cursor of another member is shown, and moves. What isn't known as yet is shown once it is.
 play_cursors() {
   begin_with "$1" three 'i 0 one\ntwo\nthree'
