@@ -11,6 +11,7 @@ local M = {
   program = 'rls',
   every = 500, -- milliseconds between two looks into the shared folder
   idle = 1000, -- milliseconds without an edit, after which edits are stored and sent
+  hold = 3000, -- milliseconds for which what went waits for what is typed in its place (third version)
   most = 3000, -- milliseconds after which edits are stored and sent also while somebody types on
   rename_at = 500, -- runs of identifiers from which it renames (docs/USE.md); 0 for never
   cursors = true, -- whether to tell where the cursor is, and to show where those of others are (second version)
@@ -37,6 +38,19 @@ local function close(self)
   self:close()
 end
 
+-- What `:w` does: it stores and sends. After a fault it tries it anew.
+local function write(self)
+  if not self.failed then
+    self:try('sync')
+  else
+    local done, fault = pcall(self.open_again, self)
+    if not done then
+      self.failed = nil
+      self:fail(tostring(fault))
+    end
+  end
+end
+
 -- What `:w FILE` does beside storing: it writes the text there, as `rls text` prints it.
 local function write_copy(self, event)
   local own = 'rls:' .. self.folder
@@ -55,7 +69,7 @@ local function watch(self)
     self.is_boundary = true
   end)
   on('BufWriteCmd', function(event)
-    self:try('sync')
+    write(self)
     write_copy(self, event)
   end)
   on('BufUnload', function() close(self) end)
@@ -75,7 +89,7 @@ local function show(self)
   options.buftype, options.bufhidden, options.swapfile, options.endofline, options.fixendofline = 'acwrite', 'hide', false, false, false
   self:attach()
   options.modified = false
-  vim.wo.statusline = "rls:%t%m %{luaeval('require(\"rls\").status()')}%<%=%l,%c"
+  vim.wo.statusline = "rls:%t%m %#ErrorMsg#%{luaeval('require(\"rls\").trouble()')}%*%{luaeval('require(\"rls\").state()')}%<%=%l,%c"
 end
 
 -- What `:e` does, which empties the buffer and ends the session: opens the replica in its buffer again.
@@ -118,10 +132,28 @@ local function opened(folder, shared)
   return self
 end
 
+-- Shows the text of a replica that another one has open, to be read alone. `:e` reads it again.
+local function show_text(folder)
+  local buffer = api.nvim_create_buf(true, false)
+  local options = vim.bo[buffer]
+  options.buftype, options.bufhidden, options.swapfile = 'nofile', 'wipe', false
+  local function read()
+    local text = vim.fn.system({ 'sh', '-c', 'cd "$1" && exec "$2" text', 'sh', folder, M.program })
+    options.modifiable, options.readonly = true, false
+    api.nvim_buf_set_lines(buffer, 0, -1, true, vim.split(text, '\n', { plain = true }))
+    options.modifiable, options.readonly, options.modified = false, true, false
+  end
+  api.nvim_set_current_buf(buffer)
+  api.nvim_buf_set_name(buffer, 'rls (read only):' .. folder)
+  api.nvim_create_autocmd('BufReadCmd', { buffer = buffer, callback = read })
+  read()
+end
+
 -- Opens a replica. If it can't be opened, one line says why, and the answer is nil.
 function M.open(folder, shared)
   local done, answer = pcall(opened, folder, shared)
   if done then return answer end
+  if answer == 'rls: to be read' then return show_text(folder) end
   vim.notify(tostring(answer), vim.log.levels.ERROR)
 end
 
@@ -133,9 +165,11 @@ function M.redo()
   if current() then current():try('redo') end
 end
 
-function M.status()
-  local self = current()
-  return self and self:status() or ''
-end
+-- What is wrong with the replica of this buffer, and what else there is to say of it.
+function M.trouble() return current() and current():trouble() or '' end
+
+function M.state() return current() and current():state() or '' end
+
+function M.status() return M.trouble() .. M.state() end
 
 return M

@@ -114,7 +114,7 @@ function s:fail(r, why) abort
   call timer_stop(get(a:r, 'timer', -1))
   call timer_stop(a:r.due)
   call setbufvar(a:r.buf, '&modified', 1)
-  echohl ErrorMsg | echomsg a:why | echohl None
+  echohl ErrorMsg | echomsg 'rls: ' . a:r.fault | echohl None
 endfunction
 
 " The same after some milliseconds, and after some more if another request waits for its reply then. Answers the timer.
@@ -152,9 +152,6 @@ function s:write(buf, file) abort
     endtry
   endif
   call s:write_copy(a:buf, a:file)
-  if r.fault !=# ''
-    echohl ErrorMsg | echomsg 'rls: ' . r.fault | echohl None
-  endif
 endfunction
 
 " What `:w FILE` does beside storing: it writes the text there, as `rls text` prints it.

@@ -50,15 +50,41 @@ function M.size_of(path)
   return told and told.type == 'file' and told.size or nil
 end
 
--- What the system says of a file, without the file's name, which nobody knows.
-local function said(why) return why and why:match('^%u+: ([^:]+)') or why end
+-- What the system says of a file in a folder, without the file's name, which nobody knows.
+local function said(why, folder)
+  if why and why:match('^EACCES') then return ('you may not write into the shared folder (%s)'):format(vim.fn.getfperm(folder)) end
+  return why and why:match('^%u+: ([^:]+)') or why
+end
+
+-- Who has a replica open, as the file `.rls-editor` in its folder says, which the editors' plugins write there: such as `Vim (4711)`. Nil if it
+-- doesn't say, or if that one has ended.
+function M.holder(folder)
+  local pid, program = (M.read(folder .. '/.rls-editor', 4096) or ''):match('^(%d+) ([%g ]+)\n')
+  local _, _, why = uv.kill(tonumber(pid or 0), 0)
+  return pid and why ~= 'ESRCH' and ('%s (%d)'):format(program:sub(1, 40), pid) or nil
+end
+
+-- Says, or says no more, that this Neovim has a replica open.
+local function own_line() return vim.fn.getpid() .. ' Neovim\n' end
+
+function M.hold(folder)
+  local file = io.open(folder .. '/.rls-editor', 'w')
+  if not file then return end
+  file:write(own_line())
+  file:close()
+end
+
+function M.let_go(folder)
+  if M.read(folder .. '/.rls-editor', 4096) == own_line() then uv.fs_unlink(folder .. '/.rls-editor') end
+end
 
 -- Writes a file so that whoever reads it sees the old one or the new one; answers why it could not, if so. It is made under a name that
 -- nobody can know before and that nobody has, and a link at its own name is replaced, and not written through.
 function M.write(path, data)
-  local new = vim.fn.fnamemodify(path, ':h') .. '/.new-' .. uv.random(16):gsub('.', function(c) return ('%02x'):format(c:byte()) end)
+  local folder = vim.fn.fnamemodify(path, ':h')
+  local new = folder .. '/.new-' .. uv.random(16):gsub('.', function(c) return ('%02x'):format(c:byte()) end)
   local file, why = uv.fs_open(new, 'wx', 438) -- 438: what the umask leaves of reading and writing for all
-  if not file then return said(why) end
+  if not file then return said(why, folder) end
   local at, count, done = 0, nil, nil
   repeat
     count, why = uv.fs_write(file, data:sub(at + 1), at)
@@ -69,7 +95,7 @@ function M.write(path, data)
   if done then done, why = uv.fs_rename(new, path) end
   if done then return nil end
   uv.fs_unlink(new)
-  return said(why)
+  return said(why, folder)
 end
 
 -- What tells whether a file is another one than before; nil if nothing is there.

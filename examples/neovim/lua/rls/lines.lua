@@ -103,21 +103,6 @@ function Lines:splice(from, to, lines)
   self.blocks = blocks
 end
 
-local function is_inside(text, at) -- whether this byte isn't the first of its character
-  local byte = text:byte(at)
-  return byte ~= nil and byte >= 0x80 and byte < 0xc0
-end
-
--- How many bytes are equal at the front and at the end of two texts, without cutting a character.
-function Lines.common_bytes(old, new)
-  local least, front, last = math.min(#old, #new), 0, 0
-  while front < least and old:byte(front + 1) == new:byte(front + 1) do front = front + 1 end
-  while front > 0 and (is_inside(old, front + 1) or is_inside(new, front + 1)) do front = front - 1 end
-  while last < least - front and old:byte(#old - last) == new:byte(#new - last) do last = last + 1 end
-  while last > 0 and is_inside(old, #old - last + 1) do last = last - 1 end
-  return front, last
-end
-
 -- How many lines are equal at the front and at the end of two lists.
 function Lines.common(old, new)
   local least, front, last = math.min(#old, #new), 0, 0

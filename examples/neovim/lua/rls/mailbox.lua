@@ -2,7 +2,7 @@
 -- the latest is enough. And one for each member's cursor.
 local files = require('rls.files')
 local api = vim.api
-local MOST_MESSAGE, MOST_CURSOR = 67108864 - 4096, 65536 -- bytes
+local MOST_MESSAGE, MOST_CURSOR = 67108864, 65536 -- bytes
 
 local M = {}
 
@@ -34,9 +34,13 @@ function M:take_from(from, changes)
   local message, why = files.read(path, MOST_MESSAGE)
   self.problems['of ' .. from] = why
   if not message or message == self.taken[from] then return false end
-  if self.session.given + #message > MOST_MESSAGE then self:send() end
   self:guard(message, from)
-  local reply, _, told = self.session:ask('m ' .. #message, message)
+  local request, reply, _, told = 'm ' .. #message, nil, nil, nil
+  if self:make_room(#request + 1 + #message) then
+    reply, _, told = self.session:ask(request, message)
+  else
+    reply = self:take_by_command(message)
+  end
   vim.list_extend(changes, told or {})
   local refused = reply:match('^no ')
   self.problems['of ' .. from] = (refused or not reply:match('held 0 refused 0')) and reply or nil
@@ -92,6 +96,7 @@ end
 -- Tells others where the cursor is, if it has moved.
 function M:show_cursor()
   if api.nvim_get_current_buf() ~= self.buf then return end
+  self:flush()
   local at = api.nvim_win_get_cursor(0)
   local place = self.lines:place(at[1] - 1, at[2])
   if place == self.shown then return end
@@ -123,7 +128,14 @@ function M:show_others()
     if is_new and not told then
       self:mark(from)
     elseif told and (is_new or self.is_lookup_due) then
-      self.session:send('l ' .. told.word, nil, function(reply) self:mark(from, tonumber(reply:match('^cursor (%d+)$')), told.name) end)
+      local edition = self.edition
+      self.session:send('l ' .. told.word, nil, function(reply)
+        if self.told or self.edition ~= edition then
+          self.is_lookup_due = true -- the text is another one by now
+        else
+          self:mark(from, tonumber(reply:match('^cursor (%d+)$')), told.name)
+        end
+      end)
     end
   end
   self.is_lookup_due = false

@@ -2,7 +2,7 @@
 local Session, Lines, Mailbox = require('rls.session'), require('rls.lines'), require('rls.mailbox')
 local files, compared = require('rls.files'), require('rls.compare')
 local uv, api = vim.loop, vim.api
-local MOST_INPUT = 67108864 - 4096 -- bytes that a session reads before it stores, less some
+local MOST_INPUT = 67108864 -- bytes that a session reads before it stores
 local MOST_STEPS = 5000 -- edits that are undone at once: a session forgets a group that has more than 10,000
 local count = Lines.count
 
@@ -13,41 +13,58 @@ for name, method in pairs(Mailbox) do Replica[name] = method end
 local function escaped(text) return (text:gsub('[\\\n\r]', { ['\\'] = '\\\\', ['\n'] = '\\n', ['\r'] = '\\r' })) end
 local function unescaped(text) return (text:gsub('\\(.)', { n = '\n', r = '\r', ['\\'] = '\\' })) end
 
+local function say(text) api.nvim_echo({ { text } }, true, {}) end
+
 -- The number after this word in a reply; any other reply is an error.
 local function number(reply, word) return tonumber(reply:match('^' .. word .. ' (%d+)')) or error('rls: ' .. reply, 0) end
 
+-- The files of a replica are its member's own: with the messages, others would write over them, and a synchroniser would put older ones there.
+local function keep_apart(folder, shared)
+  folder, shared = vim.fn.resolve(folder), vim.fn.resolve(shared)
+  if folder == shared or vim.startswith(folder, shared .. '/') then
+    error('rls: the shared folder needs to be another one, in which the folder of the replica is not', 0)
+  end
+end
+
 function Replica.open(options, namespace, folder, shared)
   local self = setmetatable({ options = options, namespace = namespace, folder = folder, shared = shared, taken = {}, sent = {}, last = {}, marks = {}, looked = 0,
-    seen = {}, problems = {}, places = {}, steps = 0, changes = options.rename_at, unsaved = false }, Replica)
+    seen = {}, problems = {}, places = {}, steps = 0, changes = options.rename_at, unsaved = false, waits_until = 0, edition = 0 }, Replica)
   if vim.fn.isdirectory(folder) == 0 then error('rls: there is no folder ' .. folder, 0) end
   if not (uv.fs_stat(folder .. '/replica.gate') or uv.fs_stat(folder .. '/replica.rls')) then
     error(('rls: there is no replica in %s; `rls new GROUP ME MEMBERS` begins one there'):format(folder), 0)
   end
+  keep_apart(folder, shared)
   if vim.fn.isdirectory(shared) == 0 then
-    vim.fn.mkdir(shared, 'p')
-    api.nvim_echo({ { 'rls: the shared folder was not there and was made' } }, true, {})
+    vim.fn.mkdir(shared, 'p', 511) -- what the umask leaves of all permissions
+    local alone = vim.fn.getfperm(shared):sub(5, 5) ~= 'w' and '; nobody else on this machine may write into it' or ''
+    say('rls: the shared folder was not there and was made' .. alone)
   end
-  self:start()
-  local done, fault = pcall(self.learn, self)
+  local done, fault = pcall(function()
+    self:start(true)
+    self:learn()
+  end)
   if not done then
-    self.session:close()
+    if self.session then self.session:kill('sigterm') end
     error(fault, 0)
   end
+  files.hold(folder)
   self.due = uv.new_timer()
   return self
 end
 
-function Replica:start()
-  self.session = Session.start(self.options.program, self.folder)
+function Replica:start(is_opening)
+  self.session = Session.start(self.options.program, self.folder, is_opening)
   self.session.before = function() self:flush() end
+  local third
+  self.session:send('v 3', nil, function(reply) third = reply == 'version 3' end)
   self.session.telling = self.session:ask('v') == 'version 2' and self.session:ask('c 1') == 'telling 1'
-  self.version = self.session.telling and 2 or 1
+  self.version = not self.session.telling and 1 or third and 3 or 2
 end
 
 -- Which member this is: the head of a message tells it. A message to oneself has a head alone.
 function Replica:learn()
   local to = 0
-  if self.version == 2 then
+  if self.version >= 2 then
     local _, stat = self.session:ask('n')
     to = tonumber(stat:match('me (%d+)'))
   end
@@ -110,8 +127,8 @@ function Replica:flush()
   self.lines:splice(first, last, new)
 end
 
--- Hands a change of lines to the session: a deletion and an insertion for each place where they differ. Neovim tells all lines from the first to
--- the last that a command changed, such as a substitution in the whole text.
+-- Hands a change of lines to the session: one change for each place where they differ. Neovim tells all lines from the first to the last that a
+-- command changed, such as a substitution in the whole text.
 function Replica:tell(first, last, new)
   local old = self.lines:slice(first, last)
   -- One line of each, so that what is compared next are whole lines of both.
@@ -128,28 +145,46 @@ function Replica:tell(first, last, new)
   local gone, come = table.concat(old, '\n'), table.concat(new, '\n')
   if gone == come then return end
   local at = self.lines:place(first, 0)
-  if self.version == 2 and (self.is_boundary or self.steps >= MOST_STEPS) then
+  local places, is_coarse = compared(gone, come)
+  local passed = 0 -- bytes of what was there
+  for _, place in ipairs(places) do
+    if place.at > passed then at = at + count(gone:sub(passed + 1, place.at)) end
+    self:end_group()
+    self:replace(at, place.gone == '' and 0 or count(place.gone), place.come)
+    at = at + (place.come == '' and 0 or count(place.come))
+    passed = place.at + #place.gone
+  end
+  self.edition, self.is_cut = self.edition + 1, places[#places].come == ''
+  if is_coarse then say('rls: a change this large was compared line by line, not word by word') end
+  if #places > 2 * MOST_STEPS then say(('rls: of %d places that were changed, u takes back the last 10,000'):format(#places)) end
+  self:is_edited()
+end
+
+-- Ends the group of undo, if another command begins or the group has enough steps.
+function Replica:end_group()
+  if self.version >= 2 and (self.is_boundary or self.steps >= MOST_STEPS) then
     self.session:send('g', nil, function() end)
     self.steps = 0
   end
   self.is_boundary = false
-  local passed = 0 -- bytes of what was there
-  for _, place in ipairs(compared(gone, come)) do
-    if place.at > passed then at = at + count(gone:sub(passed + 1, place.at)) end
-    local goes = place.gone == '' and 0 or count(place.gone)
-    -- What comes is put behind what goes, and then that goes: so the run of identifiers that ends there goes on.
-    if place.come ~= '' then self:edit(('i %d %s'):format(at + goes, escaped(place.come))) end
-    if goes > 0 then self:edit(('d %d %d'):format(at, goes)) end
-    if place.come ~= '' then at = at + count(place.come) end
-    passed = place.at + #place.gone
+end
+
+-- From a place on so many characters become this text. With the third version of the session that is one request, and the session makes operations
+-- of such changes when it has to. With an older one what comes is put behind what goes, and then that goes: so the run of identifiers that ends
+-- there goes on.
+function Replica:replace(at, gone, come)
+  if self.version >= 3 then
+    self:edit(('e %d %d %s'):format(at, gone, escaped(come)))
+  else
+    if come ~= '' then self:edit(('i %d %s'):format(at + gone, escaped(come))) end
+    if gone > 0 then self:edit(('d %d %d'):format(at, gone)) end
   end
-  self:is_edited()
+  self.steps = self.steps + (gone > 0 and 1 or 0) + (come ~= '' and 1 or 0)
 end
 
 function Replica:edit(request)
-  self.steps = self.steps + 1
   self.session:send(request, nil, function(reply, _, changes)
-    if not reply:match('^ok ') then return self:fail('rls: ' .. reply) end
+    if reply ~= 'ok' and not reply:match('^ok ') then return self:fail('rls: ' .. reply) end
     -- The first change is the edit itself. More are rare, and come from operations that waited: the buffer may have gone on since.
     if changes and #changes > 1 then self.is_behind = true end
   end)
@@ -157,12 +192,17 @@ end
 
 -- From now on something isn't stored. It is sent `idle` after the last edit, and at the latest `most` after the first. What was taken counts as
 -- an edit only if nothing else waits to be stored.
+--
+-- After an edit that took something away it is sent `hold` later: what is typed in its place goes on with what was typed before, if the session has
+-- made no operations by then.
 function Replica:is_edited(is_taken)
   local now = uv.hrtime() / 1e6
   self.changes = self.changes + 1
   if is_taken and self.unsaved then return end
   if not self.unsaved then self.unsaved, self.since = true, now end
-  local left = math.min(self.options.idle, self.since + self.options.most - now)
+  local is_held = self.version >= 3 and self.is_cut and not is_taken
+  self.waits_until = is_held and math.min(now, self.since + self.options.most) + self.options.hold or 0
+  local left = math.max(math.min(self.options.idle, self.since + self.options.most - now), self.waits_until - now)
   self.due:start(math.max(math.floor(left), 0), 0, vim.schedule_wrap(function()
     if self.unsaved then self:try('send') end
   end))
@@ -222,7 +262,9 @@ end
 -- Makes changes of the session in the buffer, at their places, so marks, folds and cursors elsewhere stay. Answers the first place
 -- that they have touched.
 function Replica:apply(changes)
+  if #changes == 0 then return nil end
   local cursors, first = self:cursors(), nil
+  self.edition = self.edition + 1
   self.is_silent = true
   local done, fault = pcall(function()
     for _, change in ipairs(changes) do
@@ -258,6 +300,7 @@ function Replica:compare()
   local old, new = self.lines:all(), vim.split(self:text(), '\n', { plain = true })
   local front, tail = Lines.common(old, new)
   if front == #old and front == #new then return end
+  self.edition = self.edition + 1
   local levels = vim.bo[self.buf].undolevels
   vim.bo[self.buf].undolevels, self.is_silent = -1, true
   api.nvim_buf_set_lines(self.buf, front, #old - tail, true, vim.list_slice(new, front + 1, #new - tail))
@@ -284,7 +327,7 @@ function Replica:take_back(request, nothing)
   else
     self:compare()
   end
-  self.is_boundary = true
+  self.is_boundary, self.is_cut = true, false
   self:is_edited()
   return true
 end
@@ -296,17 +339,17 @@ function Replica:times(count, what)
   end
 end
 
-function Replica:undo() return self:take_back(self.version == 2 and 'z' or 'u', 'Already at oldest change') end
+function Replica:undo() return self:take_back(self.version >= 2 and 'z' or 'u', 'Already at oldest change') end
 
 function Replica:redo()
-  return self.version == 2 and self:take_back('y', 'Already at newest change')
+  return self.version >= 2 and self:take_back('y', 'Already at newest change')
 end
 
 -- Storing and sending -----------------------------------------------------------
 
 function Replica:stored(reply)
   if reply ~= 'saved' then return self:fail('rls: not stored') end
-  self.session.given = 0
+  self.session.given, self.fault = 0, nil
 end
 
 -- With the first version only the end of a session writes the file, so another one begins. The cursor goes over; what `u` could take back doesn't.
@@ -320,7 +363,7 @@ end
 
 -- What `rls stat` prints: of the stored file with the first version.
 function Replica:stat()
-  if self.version == 2 then return select(2, self.session:ask('n')) end
+  if self.version >= 2 then return select(2, self.session:ask('n')) end
   return vim.fn.system({ 'sh', '-c', 'cd "$1" && exec "$2" stat', 'sh', self.folder, self.options.program })
 end
 
@@ -335,8 +378,8 @@ function Replica:rename_if_due()
   if runs <= limit * math.min(epochs, 8) then return end
   local reply, _, changes = self.session:ask('r')
   if reply:match('^no ') then
-    if self.told then return end
-    self.told = true
+    if self.is_refusal_told then return end
+    self.is_refusal_told = true
     vim.notify(('rls: the rename was refused (%s): docs/USE.md, "When to rename", says what to do'):format(reply:sub(4)))
   else
     number(reply, 'ok')
@@ -372,7 +415,37 @@ function Replica:send()
       self:stored(reply)
       if not self.failed then write() end
     end)
+    self:show_cursors()
   end
+end
+
+-- Tells where the cursor is, and shows where those of others are. Each question but an edit has the session make operations of what was typed, so
+-- with the third version this is done when it has to make them anyway, and when nothing was typed since.
+function Replica:show_cursors()
+  if self.version < 2 or not self.options.cursors then return end
+  self:show_cursor()
+  self:show_others()
+end
+
+-- Has the session read as many bytes more as this before it stores. It answers whether it can.
+function Replica:make_room(size)
+  if self.version >= 2 and self.session.given + size > MOST_INPUT then self:stored((self.session:ask('w'))) end
+  return self.session.given + size <= MOST_INPUT
+end
+
+-- Takes a message that a session can't read before it stores, by the command for that. The line that it prints is the answer.
+function Replica:take_by_command(message)
+  local name = vim.fn.tempname()
+  local file = assert(io.open(name, 'wb'))
+  file:write(message)
+  file:close()
+  self:stored((self.session:ask('q')))
+  self.session:finish()
+  local said = vim.fn.system({ 'sh', '-c', 'cd "$1" && exec "$2" take <"$3" 2>&1', 'sh', self.folder, self.options.program, name })
+  os.remove(name)
+  self:start()
+  self.is_behind = true
+  return (said:match('^applied ') and '' or 'no ') .. said:match('^[^\n]*')
 end
 
 -- Takes what came. It waits until the session has answered what was asked before, since its changes are of the text as it is then. The timer
@@ -386,7 +459,7 @@ function Replica:take(is_asked)
   local changes, taken = {}, false
   if place then number(self.session:ask('k ' .. self.lines:place(place[1] - 1, place[2])), 'cursor') end
   for from = 0, self.members - 1 do taken = self:take_from(from, changes) or taken end
-  if self.version == 2 and not self.is_behind then
+  if self.version >= 2 and not self.is_behind then
     self:apply(changes)
   elseif taken or self.is_behind then
     self:compare()
@@ -411,13 +484,11 @@ end
 
 -- What the timer does.
 function Replica:tick()
+  self:flush()
   if self.session.ended ~= false then self.session:drain() end
-  self:take()
+  if not self.unsaved or self.waits_until <= uv.hrtime() / 1e6 then self:take() end
   self:write_again()
-  if self.version == 2 and self.options.cursors and self.session:is_idle() then
-    self:show_cursor()
-    self:show_others()
-  end
+  if self.session:is_idle() and (self.version < 3 or not self.unsaved) then self:show_cursors() end
   if self.session.given > MOST_INPUT / 2 then self:send() end
 end
 
@@ -432,50 +503,41 @@ end
 
 function Replica:fail(fault)
   if self.failed then return end
-  self.failed = fault
+  self.failed, self.fault = fault, 'NOT stored: ' .. fault:gsub('^rls: ', '')
+  if api.nvim_buf_is_valid(self.buf) then vim.bo[self.buf].modified = true end
   self.due:stop()
-  vim.schedule(function() vim.notify(fault, vim.log.levels.ERROR) end)
+  vim.schedule(function() vim.notify('rls: ' .. self.fault, vim.log.levels.ERROR) end)
 end
 
 -- Opens the replica of a buffer again after a fault. What was typed and isn't in the replica is put in again; nothing is deleted, since what
 -- isn't in the buffer may be of others.
 function Replica:open_again()
-  self.session:close() -- at the end of its input it stores
+  self.session:finish()
+  if vim.fn.isdirectory(self.folder) == 0 then error('rls: there is no folder ' .. self.folder, 0) end
   self:start()
-  self.failed, self.told, self.is_behind, self.is_boundary, self.unsaved, self.taken, self.seen = nil, nil, false, true, false, {}, {}
-  local shown = api.nvim_buf_get_lines(self.buf, 0, -1, true)
+  self.told, self.is_refusal_told, self.is_behind, self.is_boundary, self.is_cut, self.unsaved = nil, nil, false, true, false, false
+  self.taken, self.seen = {}, {}
   for from = 0, self.members - 1 do self:take_from(from, {}) end
   local stored = vim.split(self:text(), '\n', { plain = true })
-  self.is_silent = true
-  api.nvim_buf_set_lines(self.buf, 0, -1, true, stored)
-  self.lines, self.is_silent = Lines.new(stored), false
-  for _, hunk in ipairs(vim.fn.reverse(Replica.missing(stored, shown))) do
-    api.nvim_buf_set_text(self.buf, hunk.row, hunk.byte, hunk.row, hunk.byte, hunk.lines)
-  end
+  local shown = api.nvim_buf_get_lines(self.buf, 0, -1, true)
+  local joined = Replica.joined(stored, shown)
+  files.hold(self.folder)
+  if not vim.deep_equal(joined, shown) then api.nvim_buf_set_lines(self.buf, 0, -1, true, joined) end
+  self.failed, self.lines = nil, Lines.new(stored)
+  if not vim.deep_equal(joined, stored) then self.told = { 0, #stored, #joined } end
   self:sync()
 end
 
--- What is in the second list of lines and not in the first: where in the first it goes, and what it is.
-function Replica.missing(stored, shown)
-  local found = {}
-  local function joined(lines) return table.concat(lines, '\n') .. '\n' end
-  for _, hunk in ipairs(vim.diff(joined(stored), joined(shown), { result_type = 'indices' })) do
-    local from, old, to, new = unpack(hunk)
-    local gone, come = vim.list_slice(stored, from, from + old - 1), vim.list_slice(shown, to, to + new - 1)
-    local row = old == 0 and from or from - 1
-    if old == 0 and row < #stored then
-      found[#found + 1] = { row = row, byte = 0, lines = vim.list_extend(come, { '' }) }
-    elseif old == 0 then
-      found[#found + 1] = { row = #stored - 1, byte = #stored[#stored], lines = vim.list_extend({ '' }, come) }
-    elseif new > 0 then
-      local one, other = table.concat(gone, '\n'), table.concat(come, '\n')
-      local front, tail = Lines.common_bytes(one, other)
-      local before = vim.split(one:sub(1, front), '\n', { plain = true })
-      local text = other:sub(front + 1, #other - tail)
-      if text ~= '' then found[#found + 1] = { row = row + #before - 1, byte = #before[#before], lines = vim.split(text, '\n', { plain = true }) } end
-    end
+-- The lines of one text with what another one has beside: nothing of the first goes.
+function Replica.joined(lines, others)
+  local old, parts, passed = table.concat(lines, '\n'), {}, 0
+  for _, place in ipairs((compared(old, table.concat(others, '\n')))) do
+    local to = place.at + #place.gone
+    vim.list_extend(parts, { old:sub(passed + 1, to), place.come })
+    passed = to
   end
-  return found
+  parts[#parts + 1] = old:sub(passed + 1)
+  return vim.split(table.concat(parts), '\n', { plain = true })
 end
 
 -- Stores what isn't stored. It isn't sent before the replica is opened again.
@@ -485,12 +547,22 @@ function Replica:close()
   -- At the end of its input a session stores too, and then the folder is free.
   if not self.failed then pcall(self.session.ask, self.session, 'q') end
   self.session:close()
+  files.let_go(self.folder)
 end
 
-function Replica:status()
+-- What is wrong with the replica: since a fault nothing is stored.
+function Replica:trouble()
+  local waits = self.session:waits()
+  if self.fault or waits < 3 then return self.fault or '' end
+  return ('NOT stored: the program has not answered for %d s'):format(waits)
+end
+
+-- What else the status line says of it.
+function Replica:state()
+  if self.failed then return '' end
   local problems = self.is_away and ', the shared folder is not there' or ''
   for message, problem in pairs(self.problems) do problems = problems .. (', message %s: %s'):format(message, problem) end
-  return self.failed or ('member %d of %d%s%s'):format(self.me, self.members, self.unsaved and ', not stored' or '', problems)
+  return ('%smember %d of %d%s%s'):format(self:trouble() == '' and '' or '; ', self.me, self.members, self.unsaved and ', not stored' or '', problems)
 end
 
 return Replica

@@ -1,18 +1,20 @@
 -- One running `rls session` (docs/SESSION.md). Requests are sent at once, and their replies come in order: each is handed to the function that
 -- was given with its request.
+local files = require('rls.files')
 local uv, api = vim.loop, vim.api
-local PATIENCE = 2 -- seconds after which it says that it waits for the program
 local TELLS = { i = true, d = true, b = true, r = true, u = true, z = true, y = true, m = true } -- requests whose replies tell changes
 
 local Session = {}
 Session.__index = Session
 
-function Session.start(program, folder)
+-- `is_opening` says that whoever waits may want to read the text alone, if another one has the folder.
+function Session.start(program, folder, is_opening)
   local input, output, errors = uv.new_pipe(), uv.new_pipe(), uv.new_pipe()
-  local self = setmetatable({ have = '', at = 1, waiting = {}, first = 1, last = 0, errors = '', ended = false, telling = false, given = 0, input = input }, Session)
+  local self = setmetatable({ have = '', at = 1, waiting = {}, first = 1, last = 0, errors = '', ended = false, telling = false, given = 0, input = input,
+    folder = folder, is_opening = is_opening, heard = uv.hrtime() }, Session)
   local handle
   -- In a group of its own: if Neovim is killed, the terminal ends what is in Neovim's group, and the session is to store at the end of its input.
-  handle = uv.spawn(program, { args = { 'session' }, cwd = folder, stdio = { input, output, errors }, detached = true }, function(status)
+  handle, self.pid = uv.spawn(program, { args = { 'session' }, cwd = folder, stdio = { input, output, errors }, detached = true }, function(status)
     self.ended = status
     handle:close()
   end)
@@ -38,6 +40,7 @@ function Session:is_idle() return self.waiting[self.first] == nil end
 -- the lines of changes, where those are told. `before` is called first: it hands on what the buffer has and the session doesn't.
 function Session:send(request, data, handler)
   if self.before then self.before() end
+  if self:is_idle() then self.heard = uv.hrtime() end
   local sent = request .. '\n' .. (data or '')
   self.last = self.last + 1
   self.waiting[self.last] = { kind = request:sub(1, 1), handler = handler }
@@ -80,31 +83,52 @@ function Session:pump()
   while entry do
     local found, at = self:parse(entry)
     if not found then return end
-    self.waiting[self.first], self.first, self.at = nil, self.first + 1, at
+    self.waiting[self.first], self.first, self.at, self.heard, self.is_begun = nil, self.first + 1, at, uv.hrtime(), true
     entry.handler(found[1], found[2], found[3])
     entry = self.waiting[self.first]
   end
 end
 
+-- How many seconds a reply is waited for.
+function Session:waits() return self:is_idle() and 0 or math.floor((uv.hrtime() - self.heard) / 1e9) end
+
+-- Whether the launcher has said that it waits for another one in the folder.
+function Session:is_locked() return not self.is_begun and self.errors:find('waiting for it', 1, true) ~= nil end
+
+function Session:waits_for()
+  if not self:is_locked() then return 'rls: waiting for the program; Ctrl-C gives up' end
+  local holder = files.holder(self.folder) or 'the program'
+  return ('rls: waiting for %s in this folder. Ctrl-C gives up%s'):format(holder, self.is_opening and ', r shows the text' or '')
+end
+
+-- While a replica is opened whose folder another one has, `r` opens its text to be read alone.
+function Session:look_at_keys()
+  if not (self.is_opening and self:is_locked()) then return end
+  local done, key = pcall(vim.fn.getchar, 0)
+  if not done or key == 3 then error('rls: given up', 0) end
+  if key == ('r'):byte() then error('rls: to be read', 0) end
+end
+
 -- Waits until a test is true, as long as the program works: it may wait for another command in the folder. Ctrl-C ends that. No other work of
 -- Neovim's runs meanwhile.
 function Session:wait(test)
-  local begun, told = uv.hrtime(), false
+  local begun, told = uv.hrtime(), 1
   while true do
-    local done, why = vim.wait(1000, function()
+    local done, why = vim.wait(200, function()
       self:pump()
       return test() or (self.ended ~= false and self.closed)
     end, 1, true)
     if done then break end
     if why == -2 then error('rls: given up', 0) end
-    if not told and uv.hrtime() - begun > PATIENCE * 1e9 then
-      told = true
+    self:look_at_keys()
+    if uv.hrtime() - begun > (told + 1) * 1e9 then
+      told = told + 1
       vim.cmd('redraw')
-      api.nvim_echo({ { 'rls: waiting for the program; Ctrl-C gives up' } }, false, {})
+      api.nvim_echo({ { self:waits_for() } }, false, {})
       vim.cmd('redrawstatus')
     end
   end
-  if told then
+  if told > 1 then
     vim.cmd('redraw')
     api.nvim_echo({ { '' } }, false, {})
   end
@@ -126,6 +150,17 @@ end
 
 function Session:close()
   if not self.input:is_closing() then self.input:close() end
+end
+
+function Session:kill(signal)
+  if self.ended == false then uv.kill(-self.pid, signal) end
+end
+
+-- Ends a session with which something is wrong. At the end of its input it stores, and then the folder is free; one that does nothing is killed.
+function Session:finish()
+  self:close()
+  vim.wait(3000, function() return self.ended ~= false end, 10)
+  self:kill('sigkill')
 end
 
 return Session
