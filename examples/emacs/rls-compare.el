@@ -15,6 +15,9 @@
 
 (defvar rls-compare--spent 0 "Steps of the search.")
 (defvar rls-compare--cut nil "Whether it went on by cheaper means.")
+(defvar rls-compare--late 0 "When it goes on line by line.")
+(defvar rls-compare-was-coarse nil "Whether the last comparison went on by cheaper means.")
+(defconst rls-compare--seconds 15)
 (defvar rls-compare--old)
 (defvar rls-compare--new)
 (defvar rls-compare--at)
@@ -242,14 +245,14 @@ They do so for half of the shorter."
     (setq old (list (apply #'concat old)) new (list (apply #'concat new))))
   (while old
     (let ((x (pop old)) (y (pop new)))
-      (rls-compare--words a x b y)
+      (if (> (float-time) rls-compare--late) (setq rls-compare--cut t) (rls-compare--words a x b y))
       (setq a (+ a (length x)) b (+ b (length y))))))
 
 (defun rls-compare (old new)
   "The replacements that make NEW of OLD, as lists (AT COUNT TEXT), the last first.
 Their places are those of OLD."
   (let* ((rls-compare--old old) (rls-compare--new new) (rls-compare--at 0) (rls-compare--to 0) (rls-compare--found nil)
-         (rls-compare--spent 0) (rls-compare--cut nil) (case-fold-search nil)
+         (rls-compare--spent 0) (rls-compare--cut nil) (rls-compare--late (+ (float-time) rls-compare--seconds)) (case-fold-search nil)
          (olds (rls-compare--lines old)) (news (rls-compare--lines new))
          (key (lambda (line) (replace-regexp-in-string "[\t-\r ]+" "" line t t)))
          (a 0) (b 0) (i 0) (j 0) (last (length olds)))
@@ -265,6 +268,7 @@ Their places are those of OLD."
                 (rls-compare--same-but-spaces p x q y)
                 (setq a (+ p (length x)) b (+ q (length y)) i (1+ i) j (1+ j)))))))
       (rls-compare--stays (length old) (length new) 0))
+    (setq rls-compare-was-coarse rls-compare--cut)
     rls-compare--found))
 
 (provide 'rls-compare)

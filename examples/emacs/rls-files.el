@@ -42,5 +42,31 @@ replaced, and not written through."
     (condition-case fault (rename-file new path t)
       (error (delete-file new) (signal (car fault) (cdr fault))))))
 
+(defun rls--editor-line ()
+  "The first line of the file `.rls-editor' of `default-directory'."
+  (if (not (rls--size ".rls-editor")) ""
+    (with-temp-buffer
+      (ignore-errors (insert-file-contents-literally ".rls-editor" nil 0 80))
+      (buffer-substring (point-min) (line-end-position)))))
+
+(defun rls--holder (folder)
+  "Who has the replica of FOLDER open, such as \"Vim (4711)\".
+The editors' plugins write that into the file `.rls-editor' there.  Nil if it
+doesn't say, or if that one has ended."
+  (let* ((default-directory folder) (line (rls--editor-line)))
+    (and (string-match "\\`\\([0-9]+\\) \\([ -~]+\\)\\'" line)
+         (let ((pid (string-to-number (match-string 1 line))) (program (match-string 2 line)))
+           (and (process-attributes pid) (format "%s (%d)" program pid))))))
+
+(defun rls--hold (folder)
+  "Says that this Emacs has the replica of FOLDER open."
+  (let ((default-directory folder))
+    (ignore-errors (write-region (format "%d Emacs\n" (emacs-pid)) nil ".rls-editor" nil 'silent))))
+
+(defun rls--release (folder)
+  "Says no more that this Emacs has the replica of FOLDER open."
+  (let ((default-directory folder))
+    (when (equal (rls--editor-line) (format "%d Emacs" (emacs-pid))) (ignore-errors (delete-file ".rls-editor")))))
+
 (provide 'rls-files)
 ;;; rls-files.el ends here

@@ -4,10 +4,13 @@
 
 (require 'rls-files)
 (require 'rls-session)
-(declare-function rls--send "rls")
+(require 'rls-changes)
+(declare-function rls--stored "rls")
+(defvar rls-program)
+(defvar rls--folder)
 
 (defcustom rls-name "" "What others see beside the cursor." :type 'string :group 'rls)
-(defconst rls--most-input (- 67108864 4096) "Bytes that a session reads before it stores, less some.")
+(defconst rls--most-input 67108864 "Bytes that a session reads before it stores.")
 (defconst rls--most-cursor 65536 "Bytes of a file with a cursor.")
 (defvar-local rls--shared nil)
 (defvar-local rls--head nil "The head of a message of this replica.")
@@ -21,7 +24,6 @@
 (defvar-local rls--marks nil "What the file of each written message was when it was looked at last.")
 (defvar-local rls--looked 0 "How often the written messages were looked at.")
 (defvar-local rls--away nil "Whether the shared folder isn't there.")
-(defvar-local rls--changes 0 "How much has changed since the runs were looked at.")
 (defvar-local rls--problems nil "What was wrong with the last message from, or to, each member.")
 (defvar-local rls--shown nil "Where point was when others were told.")
 (defvar-local rls--place nil "What others were told of point.")
@@ -70,9 +72,10 @@ read as a message is told, and stops no other member's."
                            (or (rls--read path rls--most-input) (rls--note name nil))
                          (error (rls--note name (error-message-string fault)) nil)))))
     (unless (or (null message) (equal message (alist-get from rls--taken)))
-      (when (> (+ rls--given (length message)) rls--most-input) (rls--send) (rls--drain))
       (rls--guard message from)
-      (let* ((told (rls--ask-all (format "m %d" (length message)) message)) (reply (car told))
+      (let* ((request (format "m %d" (length message)))
+             (told (if (rls--make-room (+ (length request) 1 (length message))) (rls--ask-all request message) (rls--take-by-command message)))
+             (reply (car told))
              (is-refused (string-prefix-p "no " reply)))
         (rls--note name (unless (and (not is-refused) (string-match "held 0 refused 0" reply)) reply))
         ;; What was refused once is refused again.
@@ -80,6 +83,28 @@ read as a message is told, and stops no other member's."
         (unless is-refused
           (setq rls--changes (+ rls--changes (rls--number reply "applied")))
           (or (nth 2 told) t))))))
+
+(defun rls--make-room (size)
+  "Has the session read SIZE bytes more before it stores.
+Answers whether it can."
+  (when (and (>= rls--version 2) (> (+ rls--given size) rls--most-input)) (rls--stored (rls--ask "w")))
+  (<= (+ rls--given size) rls--most-input))
+
+(defun rls--take-by-command (message)
+  "Takes a MESSAGE that a session can't read before it stores.
+The answer is that of `rls--ask-all'."
+  (let ((file (make-temp-file "rls")) (program rls-program) (folder rls--folder) (coding-system-for-write 'binary) said)
+    (rls--stored (rls--ask "q"))
+    (rls--end-process)
+    (write-region message nil file nil 'silent)
+    (with-temp-buffer
+      (let ((default-directory folder)) (call-process program file t nil "take"))
+      (goto-char (point-min))
+      (setq said (buffer-substring (point) (line-end-position))))
+    (delete-file file)
+    (rls--begin program folder)
+    (setq rls--behind t)
+    (list (if (string-prefix-p "applied " said) said (concat "no " said)))))
 
 (defun rls--enough-p (to message)
   "Whether nothing ever came from number TO and it has more than half of MESSAGE.
@@ -105,7 +130,10 @@ one that is there and answers, and gets the rest."
                  (setf (alist-get to rls--sent) message
                        (alist-get to rls--marks) (rls--mark (rls--path rls--me to))))
         ;; The name of the file is one that nobody knows.
-        (file-error (rls--note (format "to %d" to) (or (nth 2 fault) (error-message-string fault))))))))
+        (file-error (rls--note (format "to %d" to)
+                               (if (file-writable-p rls--shared) (or (nth 2 fault) (error-message-string fault))
+                                 (format "you may not write into the shared folder (%s)"
+                                         (file-attribute-modes (file-attributes rls--shared))))))))))
 
 (defun rls--there-p (to message)
   "Whether the MESSAGE to a member is there as it was written.
@@ -136,12 +164,15 @@ and each tenth time that this is called."
   (let ((at (1- (if (get-buffer-window) (window-point (get-buffer-window)) (point)))))
     (unless (equal at rls--shown)
       (setq rls--shown at)
-      (let* ((reply (rls--ask (format "a %d" at)))
-             (place (and (string-match "\\`anchor \\([^ ]+\\)\\'" reply) (match-string 1 reply)))
-             (line (string-trim-right (concat place " " (replace-regexp-in-string "[[:cntrl:]]" "" rls-name)))))
-        (when (and place (not (equal line rls--place)))
-          (setq rls--place line)
-          (ignore-errors (rls--write (rls--cursor-path rls--me) (concat (encode-coding-string line 'utf-8-unix) "\n"))))))))
+      (rls--send-request (format "a %d" at) nil #'rls--tell-point))))
+
+(defun rls--tell-point (reply &rest _)
+  "Writes for others where point is, as REPLY says it."
+  (let* ((place (and (string-match "\\`anchor \\([^ ]+\\)\\'" reply) (match-string 1 reply)))
+         (line (string-trim-right (concat place " " (replace-regexp-in-string "[[:cntrl:]]" "" rls-name)))))
+    (when (and place (not (equal line rls--place)))
+      (setq rls--place line)
+      (ignore-errors (rls--write (rls--cursor-path rls--me) (concat (encode-coding-string line 'utf-8-unix) "\n"))))))
 
 (defun rls--told-place (path from)
   "The place and the name that PATH tells of FROM's cursor; nil if none."
@@ -158,10 +189,16 @@ messages came: then the session may know of places that it didn't know before."
     (let* ((path (rls--cursor-path from)) (is-new (and (/= from rls--me) (rls--new-p path))))
       (when is-new (setf (alist-get from rls--places) (rls--told-place path from)))
       (let ((told (alist-get from rls--places)))
-        (when (or is-new (and told rls--lookup-due))
-          (let ((reply (if told (rls--ask (concat "l " (car told))) "no")))
-            (rls--mark-other from (and (string-match "\\`cursor \\([0-9]+\\)\\'" reply) (1+ (string-to-number (match-string 1 reply))))
-                             (cadr told)))))))
+        (cond ((and is-new (not told)) (rls--mark-other from nil nil))
+              ((and told (or is-new rls--lookup-due))
+               (let ((edition rls--edition))
+                 (rls--send-request (concat "l " (car told)) nil
+                                    (lambda (reply &rest _)
+                                      ;; If the text is another one by now, it is asked for again.
+                                      (if (or rls--pending (/= edition rls--edition)) (setq rls--lookup-due t)
+                                        (rls--mark-other from (and (string-match "\\`cursor \\([0-9]+\\)\\'" reply)
+                                                                   (1+ (string-to-number (match-string 1 reply))))
+                                                         (cadr told)))))))))))
   (setq rls--lookup-due nil))
 
 (defun rls--mark-other (from at name)

@@ -7,15 +7,21 @@
 
 ;;; Code:
 
+(require 'rls-files)
+
 (defconst rls--patience 2 "Seconds after which it says that it waits for the program.")
 (defvar-local rls--process nil "The session.")
-(defvar-local rls--version 1 "What the program speaks: 1 or 2.")
+(defvar-local rls--version 1 "What the program speaks: 1, 2 or 3.")
 (defvar-local rls--telling nil "Whether replies tell changes.")
 (defvar-local rls--given 0 "Bytes that the session was given since it stored.")
 (defvar-local rls--waiting nil
   "A request without a reply after the other.
 Each is its first character, and what handles its reply.")
 (defvar-local rls--failed nil "Why nothing more is done with this buffer.")
+(defvar-local rls--fault nil "What is wrong, until all is stored.")
+(defvar-local rls--heard 0 "When the session answered last, or was asked when it had answered all.")
+(defvar-local rls--begun nil "Whether the session has answered anything.")
+(defvar-local rls--opening nil "Whether the replica is being opened.")
 
 (defun rls--begin (program folder)
   "Begins a session of PROGRAM in FOLDER."
@@ -24,15 +30,17 @@ Each is its first character, and what handles its reply.")
     (setq rls--process (make-process :name "rls" :buffer (generate-new-buffer " *rls*" t)
                                      :command (list "sh" "-c" "trap '' HUP; exec \"$0\" session" program)
                                      :coding 'binary :noquery t :sentinel #'ignore :filter #'rls--filter :stderr errors)
-          rls--given 0 rls--waiting nil rls--telling nil)
+          rls--given 0 rls--waiting nil rls--telling nil rls--begun nil)
     (process-put rls--process 'errors errors)
     (process-put rls--process 'owner (current-buffer))
     (process-put rls--process 'came 0)
     (set-process-query-on-exit-flag (get-buffer-process errors) nil)
     (set-process-sentinel (get-buffer-process errors) #'ignore)
     (with-current-buffer (process-buffer rls--process) (set-buffer-multibyte nil))
-    (setq rls--telling (and (equal (rls--ask "v") "version 2") (equal (rls--ask "c 1") "telling 1"))
-          rls--version (if rls--telling 2 1))))
+    (let (third)
+      (rls--send-request "v 3" nil (lambda (reply &rest _) (setq third (equal reply "version 3"))))
+      (setq rls--telling (and (equal (rls--ask "v") "version 2") (equal (rls--ask "c 1") "telling 1"))
+            rls--version (cond ((not rls--telling) 1) (third 3) (t 2))))))
 
 (defun rls--filter (process output)
   "Keeps OUTPUT of PROCESS, and hands on what is whole."
@@ -49,8 +57,9 @@ Each is its first character, and what handles its reply.")
 (defun rls--fail (fault)
   "Remembers that nothing more is done with this buffer, which keeps what it shows."
   (unless rls--failed
-    (setq rls--failed fault)
-    (message "%s" fault)
+    (setq rls--failed fault rls--fault (concat "NOT stored: " (replace-regexp-in-string "\\`rls: " "" fault)))
+    (set-buffer-modified-p t)
+    (message "rls: %s" rls--fault)
     (force-mode-line-update)))
 
 (defun rls--pump ()
@@ -58,6 +67,7 @@ Each is its first character, and what handles its reply.")
   (let (found)
     (while (and rls--waiting (setq found (rls--parse (caar rls--waiting) rls--telling)))
       (let ((handler (cdr (pop rls--waiting))))
+        (setq rls--heard (float-time) rls--begun t)
         (condition-case fault (save-match-data (apply handler found))
           (error (rls--fail (error-message-string fault))))))))
 
@@ -94,6 +104,7 @@ the session is TELLING them."
 (defun rls--send-request (request data handler)
   "Sends REQUEST with the bytes DATA; HANDLER gets what `rls--parse' answers."
   (unless (and rls--process (process-live-p rls--process)) (error "rls: the session has ended"))
+  (unless rls--waiting (setq rls--heard (float-time)))
   (let ((sent (concat (encode-coding-string request 'utf-8-unix) "\n" data)))
     (setq rls--given (+ rls--given (length sent))
           rls--waiting (nconc rls--waiting (list (cons (aref request 0) handler))))
@@ -134,8 +145,23 @@ asks nothing then."
       (unless (or (rls--more process 0.5) (funcall test)) (error "rls: the session ended: %s" (rls--errors process)))
       (when (> (- (float-time) begun) rls--patience)
         (setq told t)
-        (message "rls: waiting for the program; C-g gives up. %s" (rls--errors process))))
+        (message "%s" (rls--waits-for process))
+        (when (and rls--opening (rls--locked-p process) (eq ?r (read-event nil nil 0.01))) (throw 'rls-read nil))))
     (when told (message nil))))
+
+(defun rls--waits ()
+  "How many seconds a reply is waited for."
+  (if rls--waiting (floor (- (float-time) rls--heard)) 0))
+
+(defun rls--locked-p (process)
+  "Whether the launcher has said that PROCESS waits for another one in the folder."
+  (and (not rls--begun) (string-search "waiting for it" (rls--errors process))))
+
+(defun rls--waits-for (process)
+  "What PROCESS is waited for."
+  (if (not (rls--locked-p process)) "rls: waiting for the program; C-g gives up"
+    (format "rls: waiting for %s in this folder. C-g gives up%s" (or (rls--holder default-directory) "the program")
+            (if rls--opening ", r shows the text" ""))))
 
 (defun rls--errors (process)
   "What PROCESS has written to standard error."
@@ -150,6 +176,24 @@ asks nothing then."
     (setq rls--process nil)
     (kill-buffer (process-get process 'errors))
     (kill-buffer (process-buffer process))))
+
+(defun rls--kill ()
+  "Ends the session at once."
+  (let ((process rls--process))
+    (ignore-errors (kill-process process))
+    (setq rls--process nil)
+    (kill-buffer (process-get process 'errors))
+    (kill-buffer (process-buffer process))))
+
+(defun rls--end-badly ()
+  "Ends a session with which something is wrong.
+At the end of its input it stores, and then the folder is free; one that does
+nothing for three seconds is killed."
+  (when rls--process
+    (when (process-live-p rls--process) (ignore-errors (process-send-eof rls--process)))
+    (let ((process rls--process) (end (+ 3 (float-time))))
+      (while (and (< (float-time) end) (process-live-p process)) (accept-process-output process 0.1 nil 1))
+      (rls--kill))))
 
 (defun rls--number (reply word)
   "The number after WORD in REPLY; any other reply is an error."

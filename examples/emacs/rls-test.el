@@ -64,7 +64,7 @@
       (should (equal (buffer-string) "hello"))
       (rls-undo)
       ;; With the first version what is stored isn't taken back.
-      (should (equal (buffer-string) (if (= rls--version 2) "" "hello"))))
+      (should (equal (buffer-string) (if (>= rls--version 2) "" "hello"))))
     (rls-test-close (list a))))
 
 ;; A timer that comes while a request waits for its reply asks nothing: each of the two would read the other's reply.
@@ -93,7 +93,7 @@
 ;; What others change elsewhere moves no marker from its character (second version), and undo takes own edits alone.
 (ert-deftest rls-places ()
   (pcase-let ((`(,a ,b) (rls-test-open 2)))
-    (when (= 2 (buffer-local-value 'rls--version a))
+    (when (<= 2 (buffer-local-value 'rls--version a))
       (with-current-buffer a (insert "one\ntwo\nthree\nfour\nfive") (rls-sync))
       (let ((marks (with-current-buffer a (list (copy-marker 11) (copy-marker 17)))))
         (with-current-buffer a (goto-char 15))
@@ -125,7 +125,7 @@
 ;; What one command did in many edits is undone in parts, since a session forgets a group that has too many (second version).
 (ert-deftest rls-many-edits ()
   (pcase-let ((`(,a) (rls-test-open 1)))
-    (when (= 2 (buffer-local-value 'rls--version a))
+    (when (<= 2 (buffer-local-value 'rls--version a))
       (with-current-buffer a
         (let ((rls--most-steps 5))
           (rls--before-command)

@@ -15,13 +15,12 @@
 
 (require 'rls-compare)
 (require 'rls-session)
+(require 'rls-changes)
 (require 'rls-mailbox)
 
 (defgroup rls nil "Texts that several people write, by rls." :group 'applications)
 (defcustom rls-program "rls" "The program." :type 'string)
 (defcustom rls-every 0.5 "Seconds between two looks into the shared folder; nil for none." :type '(choice number (const nil)))
-(defcustom rls-idle 1 "Seconds without an edit, after which edits are stored and sent." :type 'number)
-(defcustom rls-most 3 "Seconds after which edits are stored and sent also while somebody types on." :type 'number)
 (defcustom rls-rename-at 500 "Runs of identifiers from which it renames (docs/USE.md); 0 for never." :type 'natnum)
 (defcustom rls-cursors t
   "Whether to tell where point is, and to show that of others.
@@ -29,105 +28,10 @@ It needs the second version of the session."
   :type 'boolean)
 
 (defvar rls--busy nil "Whether a request waits for its reply, so that nothing else may ask.")
-(defvar rls--silent nil "Whether a change of the buffer comes from the session.")
 (defvar-local rls--folder nil)
 (defvar-local rls--name nil "The name of the buffer.")
-(defvar-local rls--unsaved nil "Whether something isn't stored yet.")
-(defvar-local rls--since 0 "When the first edit was made that isn't stored.")
-(defvar-local rls--due nil "The timer that sends.")
-(defvar-local rls--boundary nil "Whether the next edit begins a group of undo.")
-(defvar-local rls--typed 0 "How many keys the group has that inserted themselves.")
-(defconst rls--most-steps 5000
-  "Edits that are undone at once.
-A session forgets a group that has more than 10,000.")
-(defvar-local rls--steps 0 "How many edits the group has.")
-(defvar-local rls--behind nil "Whether the session changed something that isn't told.")
 (defvar-local rls--told nil "Whether it was said that a rename was refused.")
 (defvar-local rls--timer nil)
-
-;;;; From the buffer to the session
-
-(defun rls--escaped (text)
-  (replace-regexp-in-string "[\\\n\r]" (lambda (c) (pcase c ("\\" "\\\\") ("\n" "\\n") (_ "\\r"))) text t t))
-
-(defun rls--unescaped (text)
-  (replace-regexp-in-string "\\\\." (lambda (c) (pcase (aref c 1) (?n "\n") (?r "\r") (_ "\\"))) text t t))
-
-(defun rls--before-command ()
-  "Keys that insert themselves are undone together, twenty at most.
-What each other command did is undone by itself."
-  (if (and (eq this-command 'self-insert-command) (eq last-command 'self-insert-command) (< rls--typed 20))
-      (setq rls--typed (1+ rls--typed))
-    (setq rls--boundary t rls--typed 1)))
-
-(defvar-local rls--pending nil
-  "What was changed and isn't handed on yet: (FROM TO TEXT).
-From FROM to TO the buffer had TEXT.")
-
-(defun rls--changing (from to)
-  "Remembers what is there before a change.
-One command may delete a text and then insert another one there, as what is
-filled anew or piped through a program; so changes that touch are put together
-and compared, once the command is done or something else is changed."
-  (unless (or rls--silent rls--failed)
-    (when (and rls--pending (or (> from (nth 1 rls--pending)) (< to (nth 0 rls--pending)))) (rls--flush))
-    (save-restriction
-      (widen)
-      (if (not rls--pending) (setq rls--pending (list from to (buffer-substring-no-properties from to)))
-        (when (< from (nth 0 rls--pending))
-          (setf (nth 2 rls--pending) (concat (buffer-substring-no-properties from (nth 0 rls--pending)) (nth 2 rls--pending))
-                (nth 0 rls--pending) from))
-        (when (> to (nth 1 rls--pending))
-          (setf (nth 2 rls--pending) (concat (nth 2 rls--pending) (buffer-substring-no-properties (nth 1 rls--pending) to))
-                (nth 1 rls--pending) to))))))
-
-(defun rls--changed (from to gone)
-  "Notes how long what was changed is now."
-  (unless (or rls--silent rls--failed (not rls--pending))
-    (setf (nth 1 rls--pending) (+ (nth 1 rls--pending) (- to from) (- gone)))
-    ;; Outside of a command, as in a timer or a program, nothing tells the end.
-    (unless this-command (rls--flush))))
-
-(defun rls--flush ()
-  "Hands to the session what was changed."
-  (when (and rls--pending (not rls--failed))
-    (pcase-let ((`(,from ,to ,gone) rls--pending))
-      (setq rls--pending nil)
-      (let ((come (save-restriction (widen) (buffer-substring-no-properties from to))))
-        (unless (equal gone come)
-          (save-match-data
-            (rls--try (lambda ()
-                        (when (and (= rls--version 2) (or rls--boundary (>= rls--steps rls--most-steps)))
-                          (rls--send-request "g" nil #'ignore)
-                          (setq rls--steps 0))
-                        (setq rls--boundary nil)
-                        ;; What comes is put behind what goes, and then that goes: so the run of identifiers that ends there goes on.
-                        (dolist (x (rls-compare gone come))
-                          (let ((at (+ from -1 (nth 0 x))) (count (nth 1 x)))
-                            (unless (equal (nth 2 x) "") (rls--edit (format "i %d %s" (+ at count) (rls--escaped (nth 2 x)))))
-                            (when (> count 0) (rls--edit (format "d %d %d" at count)))))
-                        (rls--edited)))))))))
-
-(defun rls--edit (request)
-  "Asks for an edit that is in the buffer already."
-  (setq rls--steps (1+ rls--steps))
-  (rls--send-request request nil
-                     (lambda (reply _ changes)
-                       (rls--number reply "ok")
-                       ;; The first change is the edit itself.  More are rare, and come from operations that waited: the buffer may have
-                       ;; gone on since.
-                       (when (cdr changes) (setq rls--behind t)))))
-
-(defun rls--edited (&optional is-taken)
-  "From now on something isn't stored.
-It is sent `rls-idle' after the last edit, and at the latest `rls-most' after
-the first.  If IS-TAKEN, it counts as an edit only if nothing else waits."
-  (setq rls--changes (1+ rls--changes))
-  (unless (and is-taken rls--unsaved)
-    (let ((now (float-time)) (buffer (current-buffer)))
-      (unless rls--unsaved (setq rls--unsaved t rls--since now))
-      (when rls--due (cancel-timer rls--due))
-      (setq rls--due (run-with-timer (max 0 (min rls-idle (- (+ rls--since rls-most) now))) nil #'rls--send-due buffer)))))
 
 (defun rls--send-due (buffer)
   "Sends what BUFFER has that isn't sent, if nothing is asked just now."
@@ -151,6 +55,7 @@ What is elsewhere stays.  Answers the end of the last one; nil if there is none.
     (let ((cursors (mapcar (lambda (window) (cons window (copy-marker (window-point window) (rls--before-p (window-point window)))))
                            (get-buffer-window-list nil nil t)))
           (here (copy-marker (point) (rls--before-p (point)))) (rls--silent t) (inhibit-read-only t) last)
+      (setq rls--edition (1+ rls--edition))
       (dolist (change changes)
         (string-match "\\`\\(.\\) \\([0-9]+\\) " change)
         (let ((at (1+ (string-to-number (match-string 2 change)))) (rest (substring change (match-end 0))))
@@ -177,13 +82,14 @@ What is elsewhere stays.  Answers the end of the last one; nil if there is none.
 Only what differs is changed, so marks elsewhere stay.  With the first version
 Emacs' own undo goes back to here and no further: it would take back what
 others wrote."
+  (setq rls--edition (1+ rls--edition))
   (let ((text (rls--text)) (rls--silent t) (other (generate-new-buffer " *rls-text*" t)))
     (with-current-buffer other (insert text))
     (save-restriction
       (widen)
       (replace-buffer-contents other 1))
     (kill-buffer other)
-    (setq buffer-undo-list (= rls--version 2))))
+    (setq buffer-undo-list (>= rls--version 2))))
 
 ;;;; Undo
 
@@ -198,19 +104,19 @@ others wrote."
                       (t (let ((last (rls--apply (nth 2 reply))))
                            (rls--edited)
                            (when last (goto-char last)))))
-                (setq rls--boundary t)))))
+                (setq rls--boundary t rls--cut nil)))))
 
 (defun rls-undo (&optional count)
   "Takes own edits back, whatever others did since.
 With the second version of the session COUNT groups of them, also after they
 were stored; with the first one the last edit that isn't stored yet."
   (interactive "p")
-  (dotimes (_ (or count 1)) (rls--take-back (if (= rls--version 2) "z" "u") "No further undo information")))
+  (dotimes (_ (or count 1)) (rls--take-back (if (>= rls--version 2) "z" "u") "No further undo information")))
 
 (defun rls-redo (&optional count)
   "Does COUNT groups of own edits again (second version of the session)."
   (interactive "p")
-  (when (= rls--version 2)
+  (when (>= rls--version 2)
     (dotimes (_ (or count 1)) (rls--take-back "y" "No further redo information"))))
 
 (define-minor-mode rls-undo-mode
@@ -236,7 +142,7 @@ changes are of the text as it is then."
         (when told
           (setq taken t)
           (when (consp told) (setq changes (append changes told))))))
-    (cond ((and (= rls--version 2) (not rls--behind)) (when changes (rls--apply changes)))
+    (cond ((and (>= rls--version 2) (not rls--behind)) (when changes (rls--apply changes)))
           ((or taken rls--behind)
            (setq rls--behind nil)
            (rls--show)
@@ -250,7 +156,7 @@ changes are of the text as it is then."
 
 (defun rls--stored (reply)
   (unless (equal reply "saved") (error "rls: not stored"))
-  (setq rls--given 0))
+  (setq rls--given 0 rls--fault nil))
 
 (defun rls--begin-again ()
   "Ends the session, and begins another one.
@@ -264,7 +170,7 @@ goes over, and what `u' could take back doesn't."
 
 (defun rls--stat ()
   "What `rls stat' prints: of the stored file with the first version."
-  (if (= rls--version 2) (cadr (rls--ask-all "n"))
+  (if (>= rls--version 2) (cadr (rls--ask-all "n"))
     (let ((default-directory rls--folder) (program rls-program))
       (with-temp-buffer
         (call-process program nil '(t nil) nil "stat")
@@ -299,7 +205,7 @@ to other edits.  With the second version nothing waits: the messages are asked
 for, then it is stored, and what was answered is written after that."
   (setq rls--unsaved nil)
   (let (messages)
-    (if (= rls--version 2) (unless rls--waiting (rls--rename-if-due))
+    (if (>= rls--version 2) (unless rls--waiting (rls--rename-if-due))
       (rls--drain)
       (rls--begin-again)
       (rls--rename-if-due))
@@ -315,17 +221,25 @@ for, then it is stored, and what was answered is written after that."
       (if (= rls--version 1) (progn (rls--drain) (funcall write))
         (rls--send-request "w" nil (lambda (reply &rest _)
                                      (rls--stored reply)
-                                     (funcall write)))))))
+                                     (funcall write)))
+        (rls--show-cursors)))))
+
+(defun rls--show-cursors ()
+  "Tells where point is, and shows that of others.
+Each question but an edit has the session make operations of what was typed, so
+with the third version this is done when it has to make them anyway, and when
+nothing was typed since."
+  (when (and rls-cursors (>= rls--version 2))
+    (rls--show-point)
+    (rls--show-others)))
 
 (defun rls--tick ()
   "What the timer does.  It doesn't wait for what was asked before: it looks again."
   (unless (process-live-p rls--process) (rls--drain))
   (unless rls--waiting
-    (rls--take)
+    (unless (and rls--unsaved (> rls--waits-until (float-time))) (rls--take))
     (rls--write-again)
-    (when (and rls-cursors (= rls--version 2))
-      (rls--show-point)
-      (rls--show-others)))
+    (unless (and (>= rls--version 3) rls--unsaved) (rls--show-cursors)))
   (when (> (* 2 rls--given) rls--most-input) (rls--send)))
 
 ;;;; The buffer
@@ -337,13 +251,18 @@ After a fault nothing more is done with the buffer, which keeps what it shows."
   (unless rls--failed
     (condition-case fault (let ((rls--busy t) (inhibit-quit nil)) (funcall what))
       ;; After a quit the reply to a request may still come, and would be taken for that of another.
-      ((error quit) (setq rls--failed (if (eq (car fault) 'quit) "rls: given up" (error-message-string fault)))
-                    (message "%s" rls--failed))))
+      ((error quit) (rls--fail (if (eq (car fault) 'quit) "rls: given up" (error-message-string fault))))))
   (force-mode-line-update))
 
 (defun rls-sync ()
-  "Stores, takes what came and sends what is new."
+  "Stores, takes what came and sends what is new.
+After a fault it opens the replica again."
   (interactive)
+  (let ((failed rls--failed))
+    (condition-case fault (when failed (let ((rls--busy t)) (rls--open-again)))
+      ((error quit)
+       (setq rls--failed nil)
+       (rls--fail (if (eq (car fault) 'quit) "rls: given up" (error-message-string fault))))))
   (rls--try (lambda () (rls--take) (rls--send) (rls--drain)))
   t)
 
@@ -353,9 +272,9 @@ After a fault nothing more is done with the buffer, which keeps what it shows."
   (when rls--process
     ;; At the end of its input a session stores too, and then the folder is free.
     (if rls--failed
-        (progn (when (process-live-p rls--process) (process-send-eof rls--process))
-               (rls--end-process))
-      (rls--try (lambda () (rls--ask "q") (rls--end-process))))))
+        (rls--end-badly)
+      (rls--try (lambda () (rls--ask "q") (rls--end-process))))
+    (rls--release rls--folder)))
 
 (defun rls--let-go ()
   "Ends the session without waiting: at the end of its input it stores."
@@ -378,11 +297,20 @@ process that is dead; so it waits only if it was asked to end just now."
       (when (and (buffer-live-p buffer) (buffer-local-value 'rls--process buffer))
         (with-current-buffer buffer (funcall close))))))
 
+(defun rls--trouble ()
+  "What is wrong with the replica, if something is.
+Since a fault nothing is stored."
+  (or rls--fault
+      (let ((waits (rls--waits))) (when (>= waits 3) (format "NOT stored: the program has not answered for %d s" waits)))))
+
 (defun rls--status ()
-  (or rls--failed
-      (format "member %s of %s%s%s%s" rls--me rls--members (if rls--unsaved ", not stored" "")
-              (if rls--away ", the shared folder is not there" "")
-              (mapconcat (lambda (x) (format ", message %s: %s" (car x) (cdr x))) rls--problems ""))))
+  "What the mode line says of the replica."
+  (let ((trouble (rls--trouble)))
+    (concat (when trouble (propertize trouble 'face 'error))
+            (unless rls--failed
+              (format "%smember %s of %s%s%s%s" (if trouble "; " "") rls--me rls--members (if rls--unsaved ", not stored" "")
+                      (if rls--away ", the shared folder is not there" "")
+                      (mapconcat (lambda (x) (format ", message %s: %s" (car x) (cdr x))) rls--problems ""))))))
 
 (defun rls--save ()
   "What saving does: `rls-sync'.
@@ -407,7 +335,7 @@ Emacs keeps the hook, and calls it only once somebody has looked at it."
     (add-hook 'after-change-functions #'rls--changed nil t)))
 
 (dolist (function '(rls--before-command rls--changing rls--changed rls--flush rls--save rls--close)) (put function 'permanent-local-hook t))
-(dolist (variable '(rls-mode rls-undo-mode rls--pending rls--folder rls--name rls--unsaved rls--since rls--due rls--timer rls--steps rls--boundary
+(dolist (variable '(rls-mode rls-undo-mode rls--pending rls--waits-until rls--cut rls--replaced rls--edition rls--fault rls--heard rls--begun rls--opening rls--folder rls--name rls--unsaved rls--since rls--due rls--timer rls--steps rls--boundary
                              rls--typed rls--told rls--behind rls--process rls--version rls--telling rls--given rls--waiting rls--failed
                              rls--shared rls--head rls--group rls--members rls--me rls--seen rls--taken rls--sent rls--last rls--marks
                              rls--looked rls--away rls--changes rls--problems rls--shown rls--place rls--places rls--lookup-due
@@ -428,7 +356,7 @@ Emacs keeps the hook, and calls it only once somebody has looked at it."
     (add-hook 'after-change-major-mode-hook #'rls--stay)
     (add-hook 'kill-emacs-query-functions #'rls--asked)
     (add-hook 'kill-emacs-hook #'rls--close-all)
-    (when (= rls--version 2) (rls-undo-mode 1))))
+    (when (>= rls--version 2) (rls-undo-mode 1))))
 
 (defun rls--begin-timer (buffer)
   (setq rls--timer (run-with-timer rls-every rls-every
@@ -440,48 +368,100 @@ Emacs keeps the hook, and calls it only once somebody has looked at it."
   "Opens the replica of a buffer again after a fault.
 What was typed and isn't in the replica is put in again; nothing is deleted,
 since what isn't in the buffer may be of others."
-  (when (process-live-p rls--process) (process-send-eof rls--process))
-  (ignore-errors (rls--end-process))
-  (setq rls--failed nil rls--pending nil rls--unsaved nil rls--behind nil rls--boundary t rls--taken nil rls--seen nil)
-  (rls--begin rls-program rls--folder)
-  (dotimes (from rls--members) (rls--take-from from))
-  (let* ((shown (save-restriction (widen) (buffer-substring-no-properties (point-min) (point-max)))) (stored (rls--text))
-         (least (min (length shown) (length stored))) (front (compare-strings shown nil nil stored nil nil)) (end 0))
-    (setq front (if (eq front t) (length shown) (1- (abs front))))
-    (while (and (< end (- least front)) (eq (aref shown (- (length shown) end 1)) (aref stored (- (length stored) end 1)))) (setq end (1+ end)))
-    (let ((rls--silent t))
-      (widen)
-      (erase-buffer)
-      (insert stored))
-    (goto-char (1+ front))
-    (insert (substring shown front (- (length shown) end)))))
+  (rls--end-badly)
+  (unless (file-directory-p rls--folder) (error "rls: there is no folder %s" rls--folder))
+  (setq rls--pending nil rls--unsaved nil rls--behind nil rls--boundary t rls--cut nil rls--taken nil rls--seen nil rls--fault nil)
+  (let ((fault rls--failed))
+    (setq rls--failed nil)
+    (unwind-protect
+        (progn
+          (rls--begin rls-program rls--folder)
+          (dotimes (from rls--members) (rls--take-from from))
+          (let* ((stored (rls--text)) (shown (save-restriction (widen) (buffer-substring-no-properties (point-min) (point-max))))
+                 (joined (rls--joined stored shown)) (rls--silent t))
+            (setq fault nil)
+            (rls--hold rls--folder)
+            (save-restriction
+              (widen)
+              (unless (equal joined shown)
+                (erase-buffer)
+                (insert joined))
+              (setq rls--pending (list (point-min) (point-max) stored)))))
+      (setq rls--failed fault rls--fault (concat "NOT stored: " (replace-regexp-in-string "\\`rls: " "" (or fault "not yet")))))))
+
+(defun rls--joined (text other)
+  "TEXT with what OTHER has beside: nothing of TEXT goes."
+  (let ((parts nil) (end (length text)))
+    (dolist (x (rls-compare text other))
+      (let ((to (+ (nth 0 x) (nth 1 x))))
+        (push (substring text to end) parts)
+        (push (nth 2 x) parts)
+        (setq end to)))
+    (apply #'concat (substring text 0 end) parts)))
 
 (defun rls--learn ()
   "Which member this is: the head of a message tells it.
 A message to oneself has a head alone."
-  (setq rls--head (rls--message (if (= rls--version 2) (rls--number-of "me" (rls--stat)) 0))
+  (setq rls--head (rls--message (if (>= rls--version 2) (rls--number-of "me" (rls--stat)) 0))
         rls--group (+ (ash (rls--u32 rls--head 5) 32) (rls--u32 rls--head 9))
         rls--members (rls--u32 rls--head 13) rls--me (rls--u32 rls--head 17)))
 
+(defun rls--keep-apart (folder shared)
+  "Refuses a SHARED folder in which the FOLDER of the replica is.
+A replica's files are its member's own: others would write over them there, and
+a synchroniser would put older ones in their place."
+  (when (file-in-directory-p folder shared)
+    (user-error "rls: the shared folder needs to be another one, in which the folder of the replica is not")))
+
+(defun rls--make-shared ()
+  "Makes the shared folder, if it isn't there."
+  (unless (file-directory-p rls--shared)
+    (make-directory rls--shared t)
+    (message "The shared folder was not there and was made%s"
+             (if (zerop (logand #o020 (file-modes rls--shared))) "; nobody else on this machine may write into it" ""))))
+
 (defun rls--open-new (folder shared)
   "A buffer for the replica of FOLDER."
-  (let ((buffer (generate-new-buffer (concat "rls:" (file-name-nondirectory (directory-file-name folder))))))
+  (let ((buffer (generate-new-buffer (concat "rls:" (file-name-nondirectory (directory-file-name folder))))) done)
     (with-current-buffer buffer
-      (text-mode)
-      (setq-local require-final-newline nil)
-      (setq rls--folder folder rls--shared shared rls--name (buffer-name))
-      (unless (file-directory-p rls--shared)
-        (make-directory rls--shared t)
-        (message "The shared folder was not there and was made"))
-      (setq rls--changes rls-rename-at)
-      (rls--begin rls-program folder)
-      (rls--learn)
-      (rls--show)
+      (unwind-protect
+          (progn
+            (text-mode)
+            (setq-local require-final-newline nil)
+            (setq rls--folder folder rls--shared shared rls--name (buffer-name) default-directory folder)
+            (rls--make-shared)
+            (setq rls--changes rls-rename-at rls--opening t)
+            (rls--begin rls-program folder)
+            (rls--learn)
+            (rls--show)
+            (setq done t rls--opening nil))
+        (unless done
+          (when rls--process (rls--kill))
+          (kill-buffer buffer)))
+      (rls--hold folder)
       (goto-char (point-min))
       (rls-mode 1)
       (when rls-every (rls--begin-timer buffer))
       (rls-sync))
     buffer))
+
+(defun rls--show-text (folder)
+  "A buffer with the text of the replica of FOLDER, to be read alone.
+`revert-buffer' reads it again."
+  (with-current-buffer (generate-new-buffer (concat "rls (read only):" (file-name-nondirectory (directory-file-name folder))))
+    (text-mode)
+    (setq default-directory folder buffer-read-only t)
+    (setq-local revert-buffer-function #'rls--read-text)
+    (rls--read-text)
+    (current-buffer)))
+
+(defun rls--read-text (&rest _)
+  "Reads the text of the replica of `default-directory' into the buffer."
+  (let ((inhibit-read-only t) (coding-system-for-read 'utf-8-unix))
+    (erase-buffer)
+    (call-process rls-program nil t nil "text")
+    (goto-char (point-min))
+    (set-buffer-modified-p nil)))
 
 ;;;###autoload
 (defun rls-open (folder shared)
@@ -491,13 +471,12 @@ After a fault it opens the replica again in its buffer."
   (unless (file-directory-p folder) (user-error "There is no folder %s" folder))
   (unless (seq-some (lambda (name) (file-exists-p (expand-file-name name folder))) '("replica.gate" "replica.rls"))
     (user-error "There is no replica in %s; `rls new GROUP ME MEMBERS' begins one there" folder))
+  (rls--keep-apart folder shared)
   (let* ((folder (file-name-as-directory (expand-file-name folder)))
          (buffer (seq-find (lambda (x) (equal folder (buffer-local-value 'rls--folder x))) (buffer-list))))
-    (if (not buffer) (setq buffer (rls--open-new folder (expand-file-name shared)))
+    (if (not buffer) (setq buffer (or (catch 'rls-read (rls--open-new folder (expand-file-name shared))) (rls--show-text folder)))
       (with-current-buffer buffer
-        (when rls--failed
-          (let ((rls--busy t)) (rls--open-again))
-          (rls-sync))))
+        (when rls--failed (rls-sync))))
     (when (called-interactively-p 'any) (switch-to-buffer buffer))
     buffer))
 
