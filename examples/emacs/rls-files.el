@@ -42,6 +42,14 @@ replaced, and not written through."
     (condition-case fault (rename-file new path t)
       (error (delete-file new) (signal (car fault) (cdr fault))))))
 
+(defun rls--look-for (folder)
+  "Looks whether a replica is in FOLDER.
+The program may have its files open, and store into them, when nobody finds them
+there any more."
+  (unless (file-directory-p folder) (error "There is no folder %s" folder))
+  (unless (seq-some (lambda (name) (file-exists-p (expand-file-name name folder))) '("replica.gate" "replica.rls"))
+    (error "There is no replica in %s; `rls new GROUP ME MEMBERS' begins one there" folder)))
+
 (defun rls--editor-line ()
   "The first line of the file `.rls-editor' of `default-directory'."
   (if (not (rls--size ".rls-editor")) ""

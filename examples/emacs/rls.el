@@ -156,6 +156,7 @@ changes are of the text as it is then."
 
 (defun rls--stored (reply)
   (unless (equal reply "saved") (error "rls: not stored"))
+  (rls--look-for rls--folder)
   (setq rls--given 0 rls--fault nil))
 
 (defun rls--begin-again ()
@@ -369,7 +370,7 @@ Emacs keeps the hook, and calls it only once somebody has looked at it."
 What was typed and isn't in the replica is put in again; nothing is deleted,
 since what isn't in the buffer may be of others."
   (rls--end-badly)
-  (unless (file-directory-p rls--folder) (error "rls: there is no folder %s" rls--folder))
+  (rls--look-for rls--folder)
   (setq rls--pending nil rls--unsaved nil rls--behind nil rls--boundary t rls--cut nil rls--taken nil rls--seen nil rls--fault nil)
   (let ((fault rls--failed))
     (setq rls--failed nil)
@@ -468,9 +469,7 @@ a synchroniser would put older ones in their place."
   "Opens the replica of FOLDER; messages go through the folder SHARED.
 After a fault it opens the replica again in its buffer."
   (interactive "DReplica: \nDShared folder: ")
-  (unless (file-directory-p folder) (user-error "There is no folder %s" folder))
-  (unless (seq-some (lambda (name) (file-exists-p (expand-file-name name folder))) '("replica.gate" "replica.rls"))
-    (user-error "There is no replica in %s; `rls new GROUP ME MEMBERS' begins one there" folder))
+  (rls--look-for folder)
   (rls--keep-apart folder shared)
   (let* ((folder (file-name-as-directory (expand-file-name folder)))
          (buffer (seq-find (lambda (x) (equal folder (buffer-local-value 'rls--folder x))) (buffer-list))))

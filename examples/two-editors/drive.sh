@@ -132,16 +132,19 @@ play_typing() {
 
 # shellcheck source-path=SCRIPTDIR source=second.sh
 . "$(dirname "${BASH_SOURCE[0]}")/second.sh"
+# shellcheck source-path=SCRIPTDIR source=faults.sh
+. "$(dirname "${BASH_SOURCE[0]}")/faults.sh"
 
 # Plays what is named from the third word on, or else all of it: $1 begins the editor, and $2 begins one that opens the folders of the environment's
 # ODD. The test of the editor has the play `random`.
 play_all() {
   local name command=$1 odd=$2
   local -a names=("${@:3}")
-  [ ${#names[@]} -gt 0 ] || names=(random typing undo beside elsewhere cursors places heap away copy empty again kill waiting killed odd)
+  [ ${#names[@]} -gt 0 ] || names=(random typing undo beside elsewhere cursors places heap mixed away copy empty again kill waiting killed second hang fault apart large odd)
   for name in "${names[@]}"; do
     case $name in
       undo | beside | elsewhere | cursors | places | heap | copy) if is_second; then "play_$name" "$command"; else echo "skipped $name: it needs the second version of the session"; fi ;;
+      mixed) if is_third; then play_mixed "$command"; else echo "skipped $name: it needs the third version of the session"; fi ;;
       odd) play_odd "$odd" ;;
       *) "play_$name" "$command" ;;
     esac
@@ -357,6 +360,9 @@ write_copy() { keys ":w $1" Enter; }
 read_again() { keys ':e!' Enter; }
 substitute() { keys ':%s/e/E/g' Enter; }
 fill() { keys ':set tw=40' Enter 4G gqG; }
+go_to_end() { type_text GA; }
+give_up() { keys C-c; }
+given_up='given up'
 heap_fill() { keys ':set tw=60' Enter gg gqG; }
 heap_double() { keys ':%s/ /  /g' Enter; }
 heap_filter() { keys ':%!sed "s/\\<lorem\\>/LOREM/g"' Enter; }

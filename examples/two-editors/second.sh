@@ -5,6 +5,9 @@
 # Whether the program has the second version of the session.
 is_second() { (cd "$(mktemp -d -p "$room")" && "$RLS" new 7 0 1 >/dev/null && [ "$(printf 'v\n' | "$RLS" session | sed -n 1p)" = 'version 2' ]); }
 
+# Whether the program has the third version.
+is_third() { (cd "$(mktemp -d -p "$room")" && "$RLS" new 7 0 1 >/dev/null && [ "$(printf 'v 3\n' | "$RLS" session | sed -n 1p)" = 'version 3' ]); }
+
 # Member 1 tells where its cursor is.
 ben_shows_cursor() {
   (cd "$room/ben" && printf 'a %s\n' "$1" | "$RLS" session | sed -n 's/^anchor \(.*\)/\1 Ben B./p' >"$room/shared/.new" && mv "$room/shared/.new" "$room/shared/7-1.cursor")
@@ -186,6 +189,53 @@ play_heap() {
   for size in 6 30 400 1100 5000; do heap "$1" "$size" fill; done
   for size in 30 1100 5000; do heap "$1" "$size" double; done
   for size in 400 5000; do heap "$1" "$size" filter; done
+}
+
+# Types as people do: now and then some wrong letters, which are taken back, and a pause before the right ones. Words: a seed, the text.
+type_badly() {
+  local text=$2 wrong k n
+  RANDOM=$1
+  for ((k = 0; k < ${#text}; k++)); do
+    if ((RANDOM % 8 == 0)); then
+      n=$((RANDOM % 3 + 1)) wrong=qqq
+      pause=0.1 type_text "${wrong:0:n}"
+      for ((; n > 0; n--)); do pause=0.05 keys BSpace; done
+      ((RANDOM % 2)) || sleep "1.$((RANDOM % 9))"
+    fi
+    pause=0.05 type_text "${text:k:1}"
+  done
+}
+
+# Two members who are apart, each with a shared folder of its own, type a passage each at the end of one text, with corrections and pauses. Then
+# they exchange: each passage stands there whole. $1 begins the editor.
+play_mixed() {
+  local ada='Ada thinks that the first part should say who the report is for.' ben='Ben would rather begin with what went wrong in spring.'
+  begin_with "$1" 'Diary.' 'i 0 Diary. '
+  mkdir -p "$room/apart"
+  (cd "$room/ben" && "$RLS" take <"$room/shared/7-0-1.rlsm" >/dev/null)
+  : "${1//$room\/ada/$room\/ben}"
+  tmux -L "$socket" new-session -d -s other -x 100 -y 24 "${_//$room\/shared/$room\/apart}"
+  pane=other shows 'the other editor' 'member 1 of 2'
+  pane=other shows 'its text' 'Diary.'
+  go_to_end
+  pane=other go_to_end
+  type_badly 7 "$ada" &
+  (pane=other type_badly 8 "$ben")
+  wait $!
+  end_typing
+  pane=other end_typing
+  store
+  pane=other store
+  sleep 1
+  cp "$room/apart/7-1-0.rlsm" "$room/shared/.new" && mv "$room/shared/.new" "$room/shared/7-1-0.rlsm"
+  cp "$room/shared/7-0-1.rlsm" "$room/apart/.new" && mv "$room/apart/.new" "$room/apart/7-0-1.rlsm"
+  sleep 1
+  store
+  pane=other store
+  both_whole() { for k in ada ben; do (cd "$room/$k" && "$RLS" text) | grep -oF -e "$ada" -e "$ben" | sort | cksum; done | uniq | wc -l; (cd "$room/ada" && "$RLS" text | grep -oF -e "$ada" -e "$ben" | wc -l); }
+  wait_for 'both passages stand there whole' $'1\n2\n' both_whole
+  pane=other leave_editor
+  leave_editor
 }
 
 # The cursor of another member is shown, and moves. What isn't known as yet is shown once it is.

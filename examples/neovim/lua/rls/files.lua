@@ -56,6 +56,14 @@ local function said(why, folder)
   return why and why:match('^%u+: ([^:]+)') or why
 end
 
+-- Looks whether a replica is in a folder: the program may have its files open, and store into them, when nobody finds them there any more.
+function M.look_for(folder)
+  if vim.fn.isdirectory(folder) == 0 then error('rls: there is no folder ' .. folder, 0) end
+  if not (uv.fs_stat(folder .. '/replica.gate') or uv.fs_stat(folder .. '/replica.rls')) then
+    error(('rls: there is no replica in %s; `rls new GROUP ME MEMBERS` begins one there'):format(folder), 0)
+  end
+end
+
 -- Who has a replica open, as the file `.rls-editor` in its folder says, which the editors' plugins write there: such as `Vim (4711)`. Nil if it
 -- doesn't say, or if that one has ended.
 function M.holder(folder)

@@ -29,10 +29,7 @@ end
 function Replica.open(options, namespace, folder, shared)
   local self = setmetatable({ options = options, namespace = namespace, folder = folder, shared = shared, taken = {}, sent = {}, last = {}, marks = {}, looked = 0,
     seen = {}, problems = {}, places = {}, steps = 0, changes = options.rename_at, unsaved = false, waits_until = 0, edition = 0 }, Replica)
-  if vim.fn.isdirectory(folder) == 0 then error('rls: there is no folder ' .. folder, 0) end
-  if not (uv.fs_stat(folder .. '/replica.gate') or uv.fs_stat(folder .. '/replica.rls')) then
-    error(('rls: there is no replica in %s; `rls new GROUP ME MEMBERS` begins one there'):format(folder), 0)
-  end
+  files.look_for(folder)
   keep_apart(folder, shared)
   if vim.fn.isdirectory(shared) == 0 then
     vim.fn.mkdir(shared, 'p', 511) -- what the umask leaves of all permissions
@@ -349,6 +346,8 @@ end
 
 function Replica:stored(reply)
   if reply ~= 'saved' then return self:fail('rls: not stored') end
+  local is_there, fault = pcall(files.look_for, self.folder)
+  if not is_there then return self:fail(fault) end
   self.session.given, self.fault = 0, nil
 end
 
@@ -513,7 +512,7 @@ end
 -- isn't in the buffer may be of others.
 function Replica:open_again()
   self.session:finish()
-  if vim.fn.isdirectory(self.folder) == 0 then error('rls: there is no folder ' .. self.folder, 0) end
+  files.look_for(self.folder)
   self:start()
   self.told, self.is_refusal_told, self.is_behind, self.is_boundary, self.is_cut, self.unsaved = nil, nil, false, true, false, false
   self.taken, self.seen = {}, {}

@@ -40,6 +40,7 @@ function s:stored(r, reply) abort
   if a:reply !=# 'saved'
     throw 'rls: not stored'
   endif
+  call rls#replica#look_for(a:r.folder)
   let [a:r.given, a:r.fault] = [0, '']
 endfunction
 

@@ -17,17 +17,22 @@ function s:learn(r) abort
   let a:r.group = printf('%u', a:r.group)
 endfunction
 
+" Looks whether a replica is in a folder: the program may have its files open, and store into them, when nobody finds them there any more.
+function rls#replica#look_for(folder) abort
+  if !isdirectory(a:folder)
+    throw 'rls: there is no folder ' . a:folder
+  elseif getftype(a:folder . '/replica.gate') ==# '' && getftype(a:folder . '/replica.rls') ==# ''
+    throw printf('rls: there is no replica in %s; `rls new GROUP ME MEMBERS` begins one there', a:folder)
+  endif
+endfunction
+
 " A replica with its session, which has no buffer as yet.
 function rls#replica#new(folder, shared) abort
   let r = {'folder': rls#replica#full(a:folder), 'shared': rls#replica#full(a:shared), 'taken': {}, 'sent': {}, 'seen': {}, 'problems': {}, 'failed': '',
         \ 'unsaved': 0, 'since': 0, 'waits_until': 0, 'is_cut': 0, 'told': [], 'edition': 0, 'is_opening': 1, 'fault': '', 'changes': g:rls_rename_at, 'is_refusal_told': 0, 'silent': 0, 'boundary': 0, 'steps': 0, 'behind': 0, 'due': -1, 'shown': -1,
         \ 'cursor': '', 'places': {}, 'is_lookup_due': 0, 'last': {}, 'marks': {}, 'looked': 0, 'is_away': 0}
-  if !isdirectory(r.folder)
-    throw 'rls: there is no folder ' . r.folder
-  endif
-  if getftype(r.folder . '/replica.gate') ==# '' && getftype(r.folder . '/replica.rls') ==# ''
-    throw printf('rls: there is no replica in %s; `rls new GROUP ME MEMBERS` begins one there', r.folder)
-  elseif &encoding !=# 'utf-8'
+  call rls#replica#look_for(r.folder)
+  if &encoding !=# 'utf-8'
     throw 'rls: Vim has to work in UTF-8: put `set encoding=utf-8` into your vimrc'
   endif
   call s:keep_apart(r.folder, r.shared)
@@ -61,9 +66,7 @@ endfunction
 " in the buffer may be of others.
 function rls#replica#open_again(r) abort
   call rls#replica#end(a:r)
-  if !isdirectory(a:r.folder)
-    throw 'rls: there is no folder ' . a:r.folder
-  endif
+  call rls#replica#look_for(a:r.folder)
   try
     call rls#session#start(a:r)
     let [a:r.behind, a:r.boundary, a:r.is_cut, a:r.unsaved, a:r.taken, a:r.seen, a:r.told] = [0, 1, 0, 0, {}, {}, []]

@@ -1,0 +1,165 @@
+# What an editor says where something is wrong, and what it does then, typed into a real one. drive.sh reads this file, and an editor's test says how
+# things are typed there, by give_up (the key that ends waiting) beside what it says for the other plays.
+# shellcheck shell=bash disable=SC2154,SC2034
+
+# How many milliseconds pass until the pane shows $1, after a key that is pressed now. More than $2 are a failure.
+answers_within() {
+  local begun
+  begun=$(date +%s%3N)
+  pause=0 give_up
+  while ! screen | grep -qF -- "$1"; do
+    sleep 0.05
+    (($(date +%s%3N) - begun < 20000)) || break
+  done
+  begun=$(($(date +%s%3N) - begun))
+  ((begun <= $2)) || { echo "FAILED  the key to give up took $begun ms: $1"; screen; exit 1; }
+  echo "ok      the key to give up, after $begun ms"
+}
+
+# A second editor that opens a folder which the first one has open says who has it, gives up at once, and shows the text to be read alone. $1 begins
+# the editor; its test says its name by editor_name.
+play_second() {
+  begin_with "$1" Start 'i 0 Start'
+  tmux -L "$socket" new-session -d -s other -x 100 -y 24 "$1"
+  pane=other shows 'who has the folder' "waiting for $editor_name ("
+  pane=other answers_within "$given_up" 1500
+  [ "$editor_name" = Emacs ] || pane=other keys Enter
+  pane=other open_again
+  pane=other shows 'it once more' "waiting for $editor_name ("
+  pane=other pause=1 keys r
+  pane=other shows 'the text, to be read alone' Start
+  pane=other shows 'that it is to be read alone' 'read only'
+  pane=other leave_editor
+  type_at_end ' more'
+  ben_has 'what is typed into the first one then' 'Start more'
+  leave_editor
+  same_texts
+  ! [ -e "$room/ada/.rls-editor" ] || { echo 'FAILED  an editor that has ended has the folder open'; exit 1; }
+}
+
+# A program that hangs is told while somebody types; waiting for it ends at once; and what was typed is stored by another one. $1 begins the editor.
+play_hang() {
+  begin_with "$1" Start 'i 0 Start'
+  kill -STOP "$(session_of "$room/ada")"
+  type_at_end ' one'
+  shows 'that the program does not answer' 'NOT stored: the program has not answered for '
+  store
+  shows 'what storing waits for' 'waiting for the program'
+  answers_within 'NOT stored: given up' 1500
+  type_at_end ' two'
+  store
+  ben_has 'what was typed meanwhile' 'Start one two'
+  shows 'no fault after that' 'member 0 of 2'
+  leave_editor
+  same_texts
+}
+
+# A disk that is full, and the folder of the replica gone: storing says that it isn't stored, and why, and tries again. $1 begins the editor.
+play_fault() {
+  local disk='' long
+  long=" $(printf 'k%.0s' {1..9000})"
+  begin_with "$1" Start 'i 0 Start'
+  type_at_end ' one'
+  ben_has 'what is stored' 'Start one'
+  leave_editor
+  is_ended() { (cd "$room/ada" && flock -n . true && echo yes); }
+  wait_for 'the folder is free' $'yes\n' is_ended
+  leave_tmux
+  mkdir -p "$room/disk"
+  if [ "$(id -u)" = 0 ] && mount -t tmpfs -o size=400k none "$room/disk" 2>/dev/null; then
+    disk=$room/disk
+    trap 'leave_tmux; umount -l "$room/disk" 2>/dev/null; rm -rf "$room"' EXIT
+    mv "$room/ada" "$disk/ada" && ln -s disk/ada "$room/ada"
+    begin "$1"
+    shows 'the text' 'Start one'
+    head -c 1000000 /dev/zero >"$disk/full" 2>/dev/null || true
+    pause=3 type_at_end "$long"
+    shows 'a full disk' 'NOT stored: '
+    store
+    shows 'that it still is not stored' 'NOT stored: '
+    is_red() { tmux -L "$socket" capture-pane -e -p -t test | grep -q $'\x1b\\[[0-9;]*m[^\x1b]*NOT stored' && printf yes; }
+    wait_for 'in other colours' yes is_red
+    rm "$disk/full"
+    store
+    ben_has 'what is stored once there is room' "Start one$long"
+    shows 'no fault after that' 'member 0 of 2'
+    leave_editor
+    wait_for 'the folder is free' $'yes\n' is_ended
+    leave_tmux
+    rm "$room/ada" && mv "$disk/ada" "$room/ada"
+    umount -l "$disk"
+  else
+    echo 'skipped a full disk: no file system can be mounted'
+    disk=''
+  fi
+  begin "$1"
+  shows 'the text' 'Start one'
+  cp -r "$room/ada" "$room/kept"
+  rm -r "$room/ada"
+  type_at_end ' three'
+  shows 'a folder that is gone' 'NOT stored: '
+  store
+  shows 'that there is none' 'here is no folder'
+  cp -r "$room/kept" "$room/ada"
+  store
+  ben_has 'what is stored once it is back' "Start one${disk:+$long} three"
+  shows 'no fault after that' 'member 0 of 2'
+  leave_editor
+  same_texts
+}
+
+# The folders: that of the replica isn't taken for the shared one; the shared one is made with the permissions that the umask leaves; and one that
+# somebody else may not write into is told. $1 begins the editor.
+play_apart() {
+  replicas
+  begin "${1//$room\/shared/$room\/ada}"
+  shows 'one folder for both' 'needs to be another one'
+  leave_tmux
+  rm -r "$room/shared"
+  begin "umask 002; $1"
+  shows 'the status line' 'member 0 of 2'
+  mode_of() { stat -c %a "$room/shared"; }
+  wait_for 'the shared folder that it made' $'775\n' mode_of
+  leave_editor
+  is_ended() { (cd "$room/ada" && flock -n . true && echo yes); }
+  wait_for 'the folder is free' $'yes\n' is_ended
+  leave_tmux
+  rm -f "$room/shared"/* && chmod 755 "$room" "$room/shared"
+  if [ "$(id -u)" != 0 ]; then chmod 555 "$room/shared"; else chown -R 65534:65534 "$room/ada"; fi
+  begin "$([ "$(id -u)" != 0 ] || echo 'env HOME=/tmp setpriv --reuid 65534 --regid 65534 --clear-groups') $1"
+  shows 'a shared folder into which one may not write' 'you may not write into the shared folder ('
+  chmod 777 "$room/shared"
+  begin_typing=i
+  append one
+  end_typing
+  store
+  ben_has 'what is sent once one may' one
+  leave_editor
+  wait_for 'the folder is free' $'yes\n' is_ended
+  leave_tmux
+  [ "$(id -u)" != 0 ] || chown -R 0:0 "$room/ada"
+}
+
+# The largest message that `send` makes is taken. $1 begins the editor.
+play_large() {
+  local size million
+  replicas
+  million=$(printf 'x%.0s' {1..1024})
+  million=$(for _ in {1..1024}; do printf %s "$million"; done)
+  (cd "$room/ben" && for _ in 1 2 3; do for _ in {1..21}; do printf 'i 0 %s\nd 0 1048576\n' "$million"; done | "$RLS" edit >/dev/null; done
+    cp -r . ../other && cd ../other && "$RLS" edit >/dev/null <<<'i 0 end' && "$RLS" send 0 | wc -c >../size)
+  read -r size <"$room/size"
+  size=$((67108864 - size))
+  (cd "$room/ben" && printf 'i 0 end%s\n' "${million:0:size}" | "$RLS" edit >/dev/null && "$RLS" send 0 >"$room/shared/7-1-0.rlsm")
+  size=$(stat -c %s "$room/shared/7-1-0.rlsm")
+  [ "$size" = 67108864 ] || { echo "FAILED  a message of $size bytes"; exit 1; }
+  begin "$1"
+  shows 'what a message of 67,108,864 bytes brought' endxxx
+  ben_edits 'd 3 1000000'
+  begin_typing=i
+  append 'begin '
+  end_typing
+  store
+  ben_has 'what is typed then' 'begin end'
+  leave_editor
+}
