@@ -226,13 +226,12 @@ play_mixed() {
   pane=other end_typing
   store
   pane=other store
-  sleep 1
-  cp "$room/apart/7-1-0.rlsm" "$room/shared/.new" && mv "$room/shared/.new" "$room/shared/7-1-0.rlsm"
-  cp "$room/shared/7-0-1.rlsm" "$room/apart/.new" && mv "$room/apart/.new" "$room/apart/7-0-1.rlsm"
-  sleep 1
-  store
-  pane=other store
-  both_whole() { for k in ada ben; do (cd "$room/$k" && "$RLS" text) | grep -oF -e "$ada" -e "$ben" | sort | cksum; done | uniq | wc -l; (cd "$room/ada" && "$RLS" text | grep -oF -e "$ada" -e "$ben" | wc -l); }
+  both_whole() {
+    cp "$room/apart/7-1-0.rlsm" "$room/shared/.new" && mv "$room/shared/.new" "$room/shared/7-1-0.rlsm"
+    cp "$room/shared/7-0-1.rlsm" "$room/apart/.new" && mv "$room/apart/.new" "$room/apart/7-0-1.rlsm"
+    for k in ada ben; do (cd "$room/$k" && "$RLS" text) | grep -oF -e "$ada" -e "$ben" | sort | cksum; done | uniq | wc -l
+    (cd "$room/ada" && "$RLS" text | grep -oF -e "$ada" -e "$ben" | wc -l)
+  }
   wait_for 'both passages stand there whole' $'1\n2\n' both_whole
   pane=other leave_editor
   leave_editor
