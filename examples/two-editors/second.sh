@@ -159,8 +159,8 @@ heap() {
   many_lines "$size" >"$room/lines"
   (cd "$room/ben" && "$RLS" edit --text "$room/lines" >/dev/null && "$RLS" send 0 >"$room/shared/7-1-0.rlsm")
   begin "$1"
-  shows 'the status line' 'member 0 of 2' >/dev/null
-  shows 'the text' ' dolor' >/dev/null
+  shows 'the status line' 'member 0 of 2'
+  shows 'the text' ' dolor'
   hold_back
   never_idle
   awk -v lines="$size" 'BEGIN { split("ALPHA BRAVO CHARLIE DELTA ECHO", name, " "); k = 1 }
@@ -179,7 +179,7 @@ heap() {
   fi
   leave_editor
   is_free() { (cd "$room/ada" && flock -n . true && echo yes); }
-  wait_for 'the folder is free' $'yes\n' is_free >/dev/null
+  wait_for 'the folder is free' $'yes\n' is_free
   leave_tmux
 }
 ben_sum() { ben_takes; ben_text | cksum; }
