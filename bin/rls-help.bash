@@ -29,6 +29,7 @@ rls: one text that several people write, each with a copy of their own.
   join SHARED [FOLDER]  take part: get a number, and the texts as files
   sync [--watch]        take what came, send what was saved in the files
   who, where, drop      who takes part; where it is kept; exchange no longer
+  give NUMBER           let another member give the numbers
 
   new GROUP ME MEMBERS  by hand: begin a replica in the current folder
   edit < SCRIPT         edit it, one edit a line; or: edit --text FILE
@@ -62,12 +63,12 @@ Takes part in what is shared in SHARED: asks for a number and waits for it (60
 seconds; 75 if none has come: whoever began has to run `rls sync`). The texts
 become files in FOLDER. docs/SHARING.md
 = sync
-rls sync [SHARED|FILE] [--wait SECONDS] [--watch] [--mine]
+rls sync [SHARED|FILE] [--wait SECONDS] [--watch] [--mine FILE]
 Takes what came into the files, and sends what was changed in them, once or,
-with --watch, again and again. --mine: a file that lost much, or was saved
-from an old state, is meant as it is. docs/SHARING.md
+with --watch, again and again. --mine FILE: a file that lost much, or was
+saved from an old state, is meant as it is. docs/SHARING.md
 = who
-rls who
+rls who [SHARED]
 Prints who has which number, was last seen when, and has what.
 = where
 rls where [SHARED|FILE]
@@ -76,6 +77,10 @@ plugins.
 = drop
 rls drop FILE
 Exchanges this text no longer. The files stay where they are.
+= give
+rls give NUMBER [SHARED]
+From now on that member gives the numbers, once its machine has synced; this
+one never does again. docs/SHARING.md
 = new
 rls new GROUP ME MEMBERS
 Begins a replica in the current folder. GROUP is a number that names the text,

@@ -19,7 +19,7 @@ expect 'a member by name: what to write' yes "$(says 'rls send TO > MESSAGE')"
 expect 'help after a command' 0 "$(cd ben && status_of "$rls" take --help)"
 expect 'help fits a terminal of 80 columns' '' "$("$rls" help | awk 'length($0) > 79')"
 expect 'help fits a screen' yes "$([ "$("$rls" help | wc -l)" -le 23 ] && echo yes)"
-commands=(share join sync who where drop new edit text ids stat check send take head leave retire restart trial session build)
+commands=(share join sync who where drop give new edit text ids stat check send take head leave retire restart trial session build)
 expect 'help names every command' '' "$(for word in "${commands[@]}"; do "$rls" help | grep -qw "$word" || echo "$word"; done)"
 expect 'help of every command, in 80 columns' '' "$(for word in "${commands[@]}" help version status; do "$rls" help "$word" | awk -v word="$word" 'length($0) > 79 { print word } END { if (!NR) print word }'; done)"
 expect 'help of a command' 'rls send TO > MESSAGE' "$("$rls" help send | head -1)"

@@ -10,6 +10,7 @@ from . import limits
 from .edits import deletion, insertion, no_surrogates, replacement, script
 from .errors import Refused, RlsError
 from .folders import locked
+from .program import told
 from .reports import Head, Report, Stat, stat_of
 from .stored import State, head_of, state_of
 
@@ -102,7 +103,7 @@ class Commands(Editing):
                 break
         line = p.stderr.decode("utf-8", "replace").strip()
         if p.returncode not in fine:
-            raise (Refused if p.returncode == 6 else RlsError)(p.returncode, line, words)
+            raise (Refused if p.returncode == 6 else RlsError)(p.returncode, told(self.program, p.returncode, line), words)
         return p.stdout, line
 
     def edit(self, lines: Sequence[str]) -> None:

@@ -37,3 +37,11 @@ class UsedTwice(Stale):
         return cls(f"number {head.sender} of text {head.group} is used twice: {why}, as {path} shows. Nothing more is sent from here. Keep what"
                    " `rls text` prints, and begin in a new folder with a number that nobody has used; the other one goes on. If there is no"
                    " other one, delete that file (docs/USE.md, \"A number used twice\")")
+
+
+class Trouble(Exception):
+    """What stands in the way of a command of a circle, in one line for people; `status` is what the command ends with."""
+
+    def __init__(self, line: str, status: int = 71) -> None:
+        super().__init__(line)
+        self.status = status

@@ -48,6 +48,10 @@ class Mailbox:
         """UsedTwice if another replica writes with this number."""
         tokens.look(self.folder, self.head, replica.folder, self.names())
 
+    def show(self, replica: Replica) -> None:
+        """Says in the folder that this replica writes there with this number, before it does."""
+        tokens.show(self.folder, self.head, replica.folder)
+
     def receive(self, replica: Replica) -> Found:
         """The reports of all messages that are new here. What one member's name has that is no message stops no other's."""
         self.look(replica)
@@ -128,7 +132,7 @@ class Mailbox:
                 continue
             try:
                 if not count:
-                    tokens.show(self.folder, self.head, replica.folder)
+                    self.show(replica)
                 replace(self.path(self.me, to), message)
             except RlsError as e:
                 if to not in self.warned:

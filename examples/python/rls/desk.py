@@ -1,0 +1,241 @@
+"""Which files on this machine have which texts of a circle, and the rounds that keep both alike."""
+import os
+import sys
+import time
+from typing import Any, Dict, List, Optional, Set
+
+from .circle import Circle, Text, begin
+from .errors import RlsError, Stale, Trouble
+from .files import Busy, look, move, read_whole, understood
+from .giver import Giver
+from .handing import hand_part, take_part
+from .home import HELD, holder
+from .kept_for import tell_kept
+from .note import Note, look_of_replica
+
+KINDS = ".md", ".txt", ".text", ".markdown", ".rst", ".org", ".tex"
+MOST_NAMES = 5                  # of files that are shared at once, in one line
+RENAMED = 0.7                   # the part of the words that a file under another name has to have of the one that is missing
+
+
+def say(line: str) -> None:
+    print(f"rls: {line}", file=sys.stderr, flush=True)
+
+
+class Desk:
+    """What is bound: each text's file, and a folder whose files are texts; with `adds` new files in it become texts, too."""
+
+    def __init__(self, circle: Circle) -> None:
+        self.circle, self.home = circle, circle.home
+        kept: Dict[str, Any] = self.home.kept("bound") or {}
+        self.files: Dict[str, str] = kept.get("files", {})
+        self.folder: Optional[str] = kept.get("folder")
+        self.adds = bool(kept.get("adds"))
+        self.moving: List[str] = kept.get("moving", [])         # from where to where a file is moved just now
+        self.left: List[str] = kept.get("left", [])             # files whose texts were dropped: they aren't added anew by themselves
+        self.idle: Dict[str, Any] = self.home.kept("idle") or {}
+
+    def keep(self) -> None:
+        self.home.keep("bound", {"files": self.files, "folder": self.folder, "adds": self.adds, "moving": self.moving, "left": self.left})
+
+    def bind(self, group: int, path: str) -> None:
+        self.files[str(group)] = os.path.abspath(path)
+        self.keep()
+
+    # -- which files there are
+    def settle(self) -> None:
+        """Binds new texts to files, new files to texts, and files that got another name to the texts that they were."""
+        self._finish_moving()
+        self._finish_adding()
+        self._part_with_gone()
+        if not self.folder:
+            return
+        if not os.path.isdir(self.folder):
+            raise Trouble(f"the folder of the texts, {self.folder}, isn't there. Perhaps its disk isn't mounted; nothing was taken or sent.")
+        self._follow_renames()
+        texts = self.circle.texts()
+        for text in texts:
+            self._name_as_told(text)
+        for text in texts:
+            if str(text.group) not in self.files:
+                self.bind(text.group, free_name(os.path.join(self.folder, text.name)))
+        if self.adds:
+            self.add_all(self._new_files())
+
+    def _finish_moving(self) -> None:
+        """A stop came while a file was moved: it is under one of the two names, or under both."""
+        if self.moving:
+            group, old, new = self.moving
+            if not os.path.lexists(new) and os.path.lexists(old):
+                move(old, new)
+            elif os.path.lexists(old) and os.path.samefile(old, new):
+                os.unlink(old)
+            self.moving = []
+            self.bind(int(group), new)
+
+    def _finish_adding(self) -> None:
+        """A stop came while a text was added: its file is bound, and nobody was told of it."""
+        told = self.circle.texts_told()
+        for group, path in self.files.items():
+            if group not in told:
+                self._begin_text(int(group), path)
+
+    def _begin_text(self, group: int, path: str) -> None:
+        begin(self.circle.replica(group), group, self.circle.me, self.circle.members)
+        self.circle.say_text(group, os.path.basename(path), begun=True)
+
+    def _part_with_gone(self) -> None:
+        gone = [x for x in self.circle.gone() if x in self.files]
+        for group in gone:
+            say(f"{self.files[group]} was dropped from the circle: the file stays, and nothing is exchanged for it any more.")
+            self.part_with(group)
+
+    def part_with(self, group: str) -> None:
+        """The file of a text that was dropped stays, and is bound no longer."""
+        self.left = [x for x in self.left if os.path.exists(x)] + [self.files.pop(group)]
+        self.keep()
+
+    def _new_files(self) -> List[str]:
+        assert self.folder
+        bound = {*self.files.values(), *self.left}
+        with os.scandir(self.folder) as found:
+            there = sorted(x.path for x in found if x.name.endswith(KINDS) and not x.name.startswith(".") and x.is_file())
+        return [x for x in there if x not in bound]
+
+    def _follow_renames(self) -> None:
+        """A file that is missing, and a new one with most of its words, are one: somebody has given it another name."""
+        new = self._new_files()
+        lost = {group: Note(self.circle, Text(int(group), ""), None, say).last() for group, x in self.files.items() if not os.path.exists(x)} if new else {}
+        for path in new:
+            group = next((x for x, text in lost.items() if is_like(path, text)), None)
+            if group is not None:
+                del lost[group]
+                say(f"{os.path.basename(self.files[group])} is {os.path.basename(path)} now.")
+                self.bind(int(group), path)
+                self.circle.say_text(int(group), os.path.basename(path))
+
+    def _name_as_told(self, text: Text) -> None:
+        """Somebody has given a text another name: its file gets it, if it is in the folder of the texts and no other file has it."""
+        old = self.files.get(str(text.group))
+        if old is None or os.path.basename(old) == text.name or os.path.dirname(old) != self.folder:
+            return
+        new = os.path.join(self.folder, text.name)
+        if os.path.lexists(new):
+            return
+        if os.path.exists(old):
+            self.moving = [str(text.group), old, new]
+            self.keep()                                 # so that a stop in the middle makes no new file of it
+            move(old, new)
+            self.moving = []
+        say(f"{os.path.basename(old)} is {text.name} now.")
+        self.bind(text.group, new)
+
+    def add(self, path: str) -> None:
+        """Makes a text of a file. It is bound first: if this is stopped, the next round goes on."""
+        group = new_group()
+        self.left = [x for x in self.left if x != os.path.abspath(path)]
+        self.bind(group, path)
+        self._begin_text(group, path)
+
+    def add_all(self, paths: List[str]) -> None:
+        """Makes texts of files, and says so."""
+        for path in paths:
+            self.add(path)
+        names = [os.path.basename(x) for x in paths]
+        if names:
+            say(f"{', '.join(names[:MOST_NAMES])}{f' and {len(names) - MOST_NAMES} others' * (len(names) > MOST_NAMES)} {'is' if len(names) == 1 else 'are'} shared now.")
+
+    # -- one round
+    def once(self, only: Optional[str] = None, wait: float = 0, mine: bool = False, tend: bool = False) -> int:
+        """Files and messages, then what the giver does. With `tend` no text is looked at: an editor that exchanges by itself runs that now and
+        then. The status."""
+        self.circle.look()
+        status = 0
+        if not tend:
+            self.settle()
+        lost = self.circle.begin_texts()
+        for text in lost:
+            say(f"{text.name}: its replica is away from {self.circle.replica(text.group)}. Its number was used, so none is begun anew: `rls join --anew {self.circle.shared}` gets a new number.")
+            status = 71
+        if not tend:
+            status = max(status, self._rounds({x.group for x in lost}, only, wait, mine))
+        for line in [take_part(self.circle)] + Giver(self.circle).work():
+            if line:
+                say(line)
+        hand_part(self.circle)
+        self.circle.mark_if_due()
+        return status
+
+    def _rounds(self, left_out: Set[int], only: Optional[str], wait: float, mine: bool) -> int:
+        status, kept = 0, dict(self.idle)
+        for text in self.circle.texts():
+            path = self.files.get(str(text.group))
+            if text.group not in left_out and only in (None, path) and (mine and only or not self.is_idle(text, path)):
+                status = max(status, self._round(Note(self.circle, text, path, say), time.monotonic() + wait, mine))
+        if self.idle != kept:
+            self.home.keep("idle", self.idle)
+        return status
+
+    def is_idle(self, text: Text, path: Optional[str]) -> bool:
+        """Whether neither the messages nor the file nor the replica have changed since a round looked at them. It starts no program."""
+        seen = self.idle.get(str(text.group))
+        if not seen or path and not seen[2] or seen[2] != (look(path) if path else []):
+            return False
+        return bool(seen[0] == self.circle.signature(text.group, self.circle.me) and seen[1] == look_of_replica(self.circle.replica(text.group)))
+
+    def _round(self, note: Note, end: float, mine: bool) -> int:
+        """One round of one text. The status."""
+        name = note.text.name
+        while True:
+            try:
+                self.idle[str(note.text.group)] = note.round(mine)
+                tell_kept(self.circle, note.text, say)
+                return 0
+            except RlsError as e:
+                if e.status != 7 or "another program" not in e.line:
+                    say(f"{name}: {e.line}")
+                    return e.status if e.status in (4, 71) else 71
+                if time.monotonic() >= end:
+                    return self._told_held(note)
+                time.sleep(0.1)
+            except Stale as e:
+                say(f"{name}: {e}. The files in {note.folder} were put back from a copy, or this number is used twice: nothing was taken or sent (docs/SHARING.md, \"What breaks it\").")
+                return 71
+            except Busy:
+                say(f"{name}: another program is writing {note.path}; it goes in at the next round.")
+                return HELD
+
+    def _told_held(self, note: Note) -> int:
+        """An editor that has the text open exchanges by itself. If its file was changed, too, somebody has to know."""
+        seen = self.idle.get(str(note.text.group))
+        if not note.path or not os.path.exists(note.path) or seen and seen[2] == look(note.path):
+            return 0
+        say(f"{note.text.name}: {holder(note.folder)} has its replica open; what was changed in {note.path} goes in when that ends. --wait SECONDS waits for it.")
+        return HELD
+
+
+def new_group() -> int:
+    """The number of a new text."""
+    return int.from_bytes(os.urandom(8), "big") >> 1
+
+
+def is_like(path: str, text: str) -> bool:
+    """Whether a file has most of a text's words, and not many others."""
+    try:
+        found = read_whole(path)
+        words = set(understood(found.data if found else b"").text.split())
+    except (Busy, OSError, UnicodeDecodeError):
+        return False
+    old = set(text.split())
+    return len(words) > 0 and len(words & old) >= RENAMED * max(len(words), len(old))
+
+
+def free_name(path: str) -> str:
+    """This name, or the next one that no file has: a file of this machine isn't given away because somebody has named a text so."""
+    stem, end = os.path.splitext(path)
+    k, name = 2, path
+    while os.path.lexists(name):
+        name, k = f"{stem}-{k}{end}", k + 1
+    return name
+
+

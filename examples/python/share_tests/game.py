@@ -1,0 +1,100 @@
+"""A game of people and a carrier, all of which follows from its seed."""
+import os
+import random
+import re
+import shutil
+from typing import Dict, List, Set
+
+from rls import giver, limits
+
+from .carrier import Carrier
+from .people import Person, stat
+
+NAMES = "Ada", "Ben", "Cleo", "Dora", "Emil"
+
+
+class Game:
+    """Ada begins; the others ask when they see the circle, some late. All write words into a.md at random places, by saves, and sync; now and then
+    a sync is stopped. At last the carrier brings all that there is. Then all have different numbers and the same text, each word once."""
+
+    def __init__(self, where: str, seed: int) -> None:
+        self.r = random.Random(seed)
+        self.people = [Person(where, x) for x in NAMES[:self.r.randint(3, 5)]]
+        self.carrier = Carrier(self.people, self.r, self.r.choice([0.2, 0.5, 0.7]))
+        self.dies = self.r.choice([0, 0, 0.04])
+        self.joined: Set[str] = {"Ada"}
+        self.late = {p.name: self.r.choice([0, 0, 30, 60]) for p in self.people}
+        self.written: List[str] = []
+        self.did: Dict[str, int] = self.carrier.did
+        ada = self.people[0]
+        ada.write("one two three\nfour five six\n")
+        assert ada.rls("share", ada.shared, "a.md", "--members", "6") == 0, ada.said
+
+    def count(self, what: str) -> None:
+        self.did[what] = self.did.get(what, 0) + 1
+
+    def tries_to_join(self, p: Person, now: int) -> None:
+        if now >= self.late[p.name] and any(x.endswith(".circle") for x in os.listdir(p.shared)):
+            if self.r.random() < self.dies and p.dies(self.r.randint(1, 60), self.r.choice(["all", "half", "alone"]), "join", p.shared, p.folder, "--wait", "0"):
+                self.count("a join that was stopped")
+                return
+            status = p.rls("join", p.shared, p.folder, "--wait", "0")
+            assert status in (0, 2, 75), (status, p.said)
+            if status == 0:
+                self.joined.add(p.name)
+
+    def writes(self, p: Person) -> None:
+        if self.r.random() < 0.6 and os.path.exists(os.path.join(p.folder, "a.md")):
+            self.written.append(f"w{len(self.written)}x")
+            p.add(self.written[-1], self.r)
+        if self.r.random() < self.dies:
+            if p.dies(self.r.randint(1, 90), self.r.choice(["all", "half", "alone"]), "sync"):
+                self.count("a sync that was stopped")
+                return
+        status = p.rls("sync")
+        assert status == 0, (p.name, status, p.said)
+
+    def step(self, now: int) -> None:
+        self.carrier.step()
+        p = self.r.choice(self.people)
+        if p.name in self.joined:
+            self.writes(p)
+        else:
+            self.tries_to_join(p, now)
+
+    def end(self) -> None:
+        for _ in range(40):
+            self.carrier.step(0)
+            for p in self.people:
+                if p.name in self.joined:
+                    p.rls("sync")
+                else:
+                    self.tries_to_join(p, 1000)
+        self.carrier.settle()
+        assert self.joined == {p.name for p in self.people}, self.joined
+        numbers = [p.circle().me for p in self.people]
+        assert len(set(numbers)) == len(numbers), numbers
+        texts = {p.name: p.read() for p in self.people}
+        assert len(set(texts.values())) == 1, (texts, [stat(p) for p in self.people])
+        found = re.findall(r"w\d+x", texts["Ada"])
+        assert sorted(found) == sorted(self.written), ("lost", set(self.written) - set(found), "twice", [x for x in found if found.count(x) > 1])
+        counts = [stat(p)["accepted"] for p in self.people]
+        assert len(set(counts)) == 1 and all(n == 0 for k, n in enumerate(counts[0]) if k not in numbers), (counts, numbers)
+
+
+def play(where: str, seed: int, steps: int = 120) -> str:
+    """Plays one. Answers what happened, in words."""
+    before = giver.SPARE_FROM, giver.TEND, limits.RENAME_AT
+    giver.SPARE_FROM, giver.TEND, limits.RENAME_AT = random.Random(seed).choice([(0, 0, 500), (65_536, 0, 500), (0, 0.5, 500), (0, 0, 12), (0, 60, 30)])
+    os.environ["RLS_SPARE_FROM"], os.environ["RLS_TEND"], os.environ["RLS_RENAME_AT"] = str(giver.SPARE_FROM), str(giver.TEND), str(limits.RENAME_AT)
+    try:
+        game = Game(where, seed)
+        for now in range(steps):
+            game.step(now)
+        game.end()
+    finally:
+        giver.SPARE_FROM, giver.TEND, limits.RENAME_AT = before
+        for name in "RLS_SPARE_FROM", "RLS_TEND", "RLS_RENAME_AT":
+            del os.environ[name]
+    shutil.rmtree(where)
+    return f"{len(game.written)} words of {len(game.people)} people, {', '.join(f'{what}: {n}' for what, n in sorted(game.did.items()))}"

@@ -1,0 +1,86 @@
+#!/usr/bin/env python3
+"""For each rule of sharing, the code without it: a test has to fail then. must_fail.py [RULE ..] says which one does.
+
+The status is 1 if a rule could be taken out and no test failed, or if its line isn't in the code any more."""
+import os
+import shutil
+import subprocess
+import sys
+import tempfile
+
+TOP = os.path.dirname(os.path.dirname(os.path.abspath(__file__)))
+# A rule, its file, what stands there, what stands there without it, and the tests one of which has to fail.
+RULES = [
+    ("the giver is silent for a number that it has given", "giver", 'if str(k) not in self.given and', "if k not in self.handed and", "handed_over"),
+    ("a number that is given is written down first", "giver", '        self.home.keep("given", self.given)\n', "", "two_at_once giver_dies"),
+    ("the giver looks for numbers that it doesn't know of", "giver", "            self.look_at_numbers()\n", "", "giver_put_back"),
+    ("a spare number makes no operation", "giver", '        """Whoever writes renames."""', "        super(Session, self).edit(['r'])", "no_operation_of_a_spare_number"),
+    ("a pack is made once", "giver", "            if int(k) not in self.handed:", "            if True:", "pack_is_made_once"),
+    ("a spare replica that is away is nobody's", "giver", "        if lost:\n", "        if False:\n", "replica_is_away"),
+    ("a giver looks whether the part went on", "giver", "        if any(int(x[1]) > self.turn", "        if False and any(int(x[1]) > self.turn", "old_giver_put_back"),
+    ("that the part is gone is written down first", "handing", "    circle.home.keep(\"part\", {\"turn\": giver.turn + 1, \"to\": to, \"token\": here.get(\"token\", \"\")})\n    hand_part(circle)", "    data = part_pack(circle)\n    replace(circle.path(f\"{circle.id}-1.spares\"), data)\n    write_notice(circle.path(f\"{circle.id}-1.part\"), to=to, token=here.get(\"token\"), sum=hashlib.sha256(data).hexdigest())\n    circle.home.keep(\"part\", {\"turn\": giver.turn + 1, \"to\": to, \"token\": here.get(\"token\", \"\")})", "part_goes_on"),
+    ("a pack has its sum", "newcomer", ' or hashlib.sha256(data).hexdigest() != seat.get("sum")', "", "half_pack"),
+    ("a number that was begun with isn't taken again", "newcomer", "            look_at_number(circle, k)\n", "", "put_back_before_the_number"),
+    ("the place is told before a number is there", "newcomer", "    circle.home.look_at_place(circle.shared)\n", "", "copied_before_the_number"),
+    ("the place is looked at", "circle", "        self.home.look_at_place(self.shared)\n", "", "copied_home"),
+    ("the mark is looked at", "circle", "if there and (there.get", "if False and (there.get", "copied_disk"),
+    ("the mark comes before the first message", "circle", "        self.circle.mark()\n        return False", "        return False", "mark_comes_first"),
+    ("a mark has random digits", "home", "{secrets.token_hex(4)}", "00000000", "copied_disk overwritten_message"),
+    ("one who asks is asked for once", "circle", "        with self.home.hold(wait):\n            self.read_again()\n", "        with self.home.hold(wait):\n", "two_joins_of_one_machine"),
+    ("a replica that is away isn't begun anew", "circle", "if text.group in begun or text.group in self.seat.packed:", "if False:", "replica_is_away"),
+    ("what was said of a text is remembered", "circle", "        if files != kept[\"files\"] and self.has_number:", "        if False:", "dropped_for_ever"),
+    ("a dropped text stays dropped", "circle", "self.gone or other.gone", "last.gone", "dropped_and_renamed"),
+    ("the file of a circle is written anew", "circle", "        if self.seat and self.seat.number == 0:", "        if self.seat and self.seat.number == 0 and not self.home.kept('given'):", "no_circle_file"),
+    ("a name is no path", "notices", "os.path.basename(name) if x.isprintable() and x not in \"/\\\\\"", "name", "hostile_names"),
+    ("a replica is that of the number", "note", "        self._look_at(session.head())\n", "", "other_number"),
+    ("what goes in is noted first", "note", "        if pending and session", "        if False and session", "dies_at_each_step"),
+    ("the note has how many edits go in", "note", ">= pending[1]", "> pending[1] - len(lines_of(carried('', pending[0], '')))", "stopped_before_an_editor"),
+    ("where an editor opens, what was stopped is settled", "__main__", "                Note(circle, text, None if path == \"-\" else path, say).settle()\n", "                pass\n", "stopped_before_an_editor"),
+    ("an older state is looked for", "note", "    if len(versions) < 2 or not any", "    if True or not any", "stale_save"),
+    ("the same save has to be saved again", "note", "if any(x == mark and was != at for", "if any(x == mark for", "same_file_again"),
+    ("an emptied file isn't taken", "note", "if len(new) * 2 < len(last)", "if False and len(new) * 2 < len(last)", "stale_save same_file_again"),
+    ("messages are looked at before they are read", "note", "        return messages, session.replica_look, file_look", "        self.circle.entries = None\n        return self.circle.signature(self.text.group, self.circle.me), session.replica_look, file_look", "message_in_between"),
+    ("the look of a file is that of what was read or written", "note", "        return messages, session.replica_look, file_look", "        return messages, session.replica_look, look(self.path) if self.path else []", "message_in_between"),
+    ("for a new number what others are known to have counts", "note", '                self.state["known"] = sent', '                pass\n        self.state["known"] = text', "overwritten_message"),
+    ("what has lost its place is looked at", "files", "    if saved and saved.data != expected:", "    if False:", "save_in_between"),
+    ("a writer is waited for", "files", "        return False if e.errno in (errno.EAGAIN, errno.EBUSY) else None", "        return True", "save_in_between"),
+    ("half of a new file is nobody's save", "files", '(beside(path, "old"), beside(path, "next"))', '(beside(path, "old"), beside(path, "next"), beside(path, "new"))', "dies_at_each_step"),
+    ("a file that was deleted meanwhile is no empty one", "files", "        return Put([])                                  #", "        open(path, 'wb').close()\n        open(following, 'wb').close()\n        return Put(told, True)  #", "deleted_in_between"),
+    ("what both did alike is done once", "merge", "        if (i0, i1, mine[j0:j1]) in done:\n            continue\n", "", "carried"),
+    ("texts are compared by words", "merge", "in replacements(old, new):", "in ([(0, len(old), new)] if old != new else []):", "words"),
+    ("a file is bound before its text is told", "desk", "        self.bind(group, path)\n        self._begin_text(group, path)", "        self._begin_text(group, path)\n        self.bind(group, path)", "stopped_while_a_text_is_added"),
+    ("a dropped file isn't added by itself", "desk", "bound = {*self.files.values(), *self.left}", "bound = {*self.files.values()}", "folder_of_notes dropped_and_renamed"),
+    ("a file of one's own isn't given away", "desk", "    while os.path.lexists(name):", "    while False:", "hostile_names"),
+    ("a folder that is away is told", "desk", "        if not os.path.isdir(self.folder):\n            raise", "        if False:\n            raise", "folder_away"),
+]
+
+
+def fails(package: str, tests: str) -> str:
+    """Which of these tests fail; the empty string if none does."""
+    env = {**os.environ, "EACH": "1" if "dies" in tests or "stopped" in tests else "5", "PYTHONDONTWRITEBYTECODE": "1"}
+    p = subprocess.run([sys.executable, os.path.join(package, "test_share.py"), *tests.split()], env=env, capture_output=True, text=True)
+    return " ".join(x.split()[1] for x in p.stdout.splitlines() if x.startswith("FAILED")) or ("" if p.returncode == 0 else "all")
+
+
+def main(names: "list[str]") -> int:
+    os.environ["RLS"] = os.path.abspath(os.environ.get("RLS", os.path.join(TOP, "..", "..", "bin", "rls")))
+    status = 0
+    for rule, module, old, new, tests in RULES:
+        if names and rule not in names and not set(tests.split()) & set(names):
+            continue
+        with tempfile.TemporaryDirectory() as room:
+            package = os.path.join(room, "python")
+            shutil.copytree(TOP, package)
+            path = os.path.join(package, "rls", f"{module}.py")
+            with open(path, encoding="utf-8") as f:
+                text = f.read()
+            with open(path, "w", encoding="utf-8") as f:
+                f.write(text.replace(old, new))
+            found = fails(package, tests) if old in text else "NO SUCH LINE"
+        print(f"{'ok     ' if found and old in text else 'FAILED '} {rule}: {found or 'no test fails'}", flush=True)
+        status |= not found or old not in text
+    return status
+
+
+if __name__ == "__main__":
+    sys.exit(main(sys.argv[1:]))

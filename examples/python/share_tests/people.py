@@ -1,0 +1,117 @@
+"""People with machines of their own, which are folders here."""
+import contextlib
+import io
+import os
+import random
+import re
+import subprocess
+import sys
+import tempfile
+from typing import Iterable, Iterator, List, Optional, Tuple
+
+from rls import Commands
+from rls import __main__ as cli
+from rls import giver
+from rls.circle import Circle
+from rls.reports import Stat
+
+from . import TOP
+
+# Everything is synced all the time, so a disk would make this slow.
+ROOM = tempfile.mkdtemp(dir=None if "TMPDIR" in os.environ or not os.access("/dev/shm", os.W_OK) else "/dev/shm")
+
+
+class Person:
+    """A machine: its own home, its own copy of the shared folder, its own files."""
+
+    def __init__(self, room: str, name: str, shared: Optional[str] = None) -> None:
+        self.name, self.home = name, os.path.join(room, name, "home")
+        self.shared = shared or os.path.join(room, name, "shared")
+        self.folder = os.path.join(room, name, "notes")
+        for x in self.home, self.shared, self.folder:
+            os.makedirs(x, exist_ok=True)
+        self.said = ""
+
+    def rls(self, *words: str) -> int:
+        os.environ["RLS_HOME"], os.environ["USER"] = self.home, self.name
+        os.chdir(self.folder)
+        out, err = io.StringIO(), io.StringIO()
+        with contextlib.redirect_stdout(out), contextlib.redirect_stderr(err):
+            status = cli.main(list(words))
+        self.out, self.said = out.getvalue(), err.getvalue()
+        return status
+
+    def dies(self, step: int, how: str, *words: str) -> bool:
+        """Whether the command was stopped at this step (dying.py); it has ended before otherwise."""
+        env = {**os.environ, "RLS_HOME": self.home, "USER": self.name, "PYTHONPATH": TOP, "PYTHONDONTWRITEBYTECODE": "1"}
+        p = subprocess.run([sys.executable, "-m", "share_tests.dying", str(step), how, *words], env=env, cwd=self.folder, capture_output=True, start_new_session=True)
+        self.said = p.stderr.decode()
+        assert "Traceback" not in self.said, self.said
+        return p.returncode in (9, -9)
+
+    def circle(self) -> Circle:
+        os.environ["RLS_HOME"] = self.home
+        return Circle.of(self.shared)
+
+    def read(self, name: str = "a.md") -> str:
+        with open(os.path.join(self.folder, name), encoding="utf-8", newline="") as f:
+            return f.read()
+
+    def write(self, text: str, name: str = "a.md") -> None:
+        path = os.path.join(self.folder, name)
+        with open(path + ".tmp", "w", encoding="utf-8", newline="") as f:
+            f.write(text)
+        os.replace(path + ".tmp", path)
+
+    def add(self, word: str, r: random.Random, name: str = "a.md") -> None:
+        """Puts a word into the file at some place, as an editor does that saves."""
+        text = self.read(name)
+        at = r.choice([0, len(text)] + [m.end() for m in re.finditer(r"\s", text)])
+        self.write(text[:at] + word + r.choice([" ", "\n"]) + text[at:], name)
+
+
+def room(name: str) -> str:
+    path = os.path.join(ROOM, name)
+    os.makedirs(path)
+    return path
+
+
+def started(name: str, text: str = "Bread and tea\n", members: str = "4") -> Tuple[Person, Person]:
+    """Ada began with a.md, and Ben has joined; both see one folder."""
+    where = room(name)
+    ada = Person(where, "Ada")
+    ben = Person(where, "Ben", ada.shared)
+    ada.write(text)
+    assert ada.rls("share", ada.shared, "a.md", "--members", members) == 0, ada.said
+    joins(ben, ada)
+    assert ben.read() == text, ben.read()
+    return ada, ben
+
+
+def joins(who: Person, giver_is: Person) -> None:
+    """A number for somebody who sees the giver's folder."""
+    assert who.rls("join", who.shared, who.folder, "--wait", "0") == 75, who.said
+    assert giver_is.rls("sync") == 0, giver_is.said
+    assert who.rls("join", who.shared, who.folder, "--wait", "0") == 0, who.said
+
+
+@contextlib.contextmanager
+def spares(at_least: int = 0, each: float = 0) -> Iterator[None]:
+    """The giver holds replicas of spare numbers from so many bytes on, and looks after them each so many seconds."""
+    before = giver.SPARE_FROM, giver.TEND
+    giver.SPARE_FROM, giver.TEND = at_least, each
+    try:
+        yield
+    finally:
+        giver.SPARE_FROM, giver.TEND = before
+
+
+def all_sync(people: Iterable[Person]) -> None:
+    for p in people:
+        assert p.rls("sync") == 0, (p.name, p.said)
+
+
+def stat(p: Person) -> Stat:
+    """The numbers of the replica of the first text."""
+    circle = p.circle()
+    return Commands(circle.replica(circle.texts()[0].group)).stat()

@@ -1,0 +1,301 @@
+"""A plain file that any editor writes while it is synced: no save is lost, and nothing goes in twice."""
+import os
+import random
+import re
+import shutil
+import signal
+import subprocess
+import sys
+import textwrap
+import time
+from typing import Optional
+
+from rls import Mailbox, Session
+from rls import files, kept_for, note
+from rls.edits import applied
+from rls.merge import carried
+
+from . import TOP
+from .people import Person, all_sync, room, started, stat
+
+
+def test_words() -> None:
+    """Both change one line; one reflows a paragraph meanwhile."""
+    ada, ben = started("words", "The quick brown fox jumps over the lazy dog, and the dog sleeps on. " * 12 + "\n")
+    ada.write(textwrap.fill(ada.read(), 60) + "\n")
+    text = ben.read()
+    for k in range(5):
+        at = text.index("lazy", 150 * k)
+        text = text[:at] + f"very{k} " + text[at:]
+    ben.write(text)
+    for p in ada, ben, ada, ben:
+        assert p.rls("sync") == 0, p.said
+    assert ada.read() == ben.read() and all(f"very{k} lazy" in ada.read().replace("\n", " ") for k in range(5)), ada.read()
+    assert len(ada.read().split()) == 14 * 12 + 5, ada.read()
+
+
+def test_stale_save() -> None:
+    """An editor that doesn't see that the file has changed saves what it has: what came meanwhile stays, and is deleted only if that is said."""
+    ada, ben = started("stale-save", "alpha beta gamma\n")
+    ben.write("alpha BEN beta gamma\n")
+    ben.rls("sync")
+    ada.rls("sync")
+    assert ada.read() == "alpha BEN beta gamma\n"
+    ada.write("alpha beta gamma ADA\n")                  # from the old state
+    assert ada.rls("sync") == 0 and "older state" in ada.said, ada.said
+    assert ada.read() == "alpha BEN beta gamma ADA\n", ada.read()
+    ada.write("alpha beta gamma ADA\n")                  # the same again: she means it
+    assert ada.rls("sync") == 0 and ada.read() == "alpha beta gamma ADA\n", (ada.read(), ada.said)
+    ben.rls("sync")
+    assert ben.read() == ada.read()
+    for text in "one\n", "one two\n", "one\n", "two\n", "one two three\n", "one two\n":
+        ben.write(text)                                 # what one has written oneself goes when one deletes it
+        assert ben.rls("sync") == 0 and ben.read() == text and ben.said == "", (text, ben.said)
+    ben.write("")
+    assert ben.rls("sync") == 0 and ben.read() == "", ben.said       # a short text may go as a whole
+    ben.write("long text\n" * 60)
+    ben.rls("sync")
+    ben.write("")
+    assert ben.rls("sync") == 71 and "more than half" in ben.said, ben.said
+    assert ben.rls("sync", "--mine", "a.md") == 0 and ben.read() == "", ben.said
+
+
+def test_save_in_between() -> None:
+    """An editor saves just when the file is to be replaced; and one that writes in place has it open."""
+    real_renamed = files.renamed
+    for kind, can in [("rename", True), ("in place", True), ("in two steps", True), ("rename", False), ("in place", False), ("in two steps", False)]:
+        files.renamed = real_renamed if can else lambda a, b, how: False
+        ada, ben = started(f"between-{kind.replace(' ', '-')}-{can}", "alpha beta gamma\n")
+        ben.write("alpha BEN beta gamma\n")
+        ben.rls("sync")
+        ada.write("alpha beta gamma ADA\n")
+        real, done = note.put, []
+
+        def put(path: str, data: bytes, expected: Optional[bytes]) -> Optional[bytes]:
+            if not done:
+                done.append(1)
+                if kind == "rename":
+                    ada.write("alpha beta gamma ADA AGAIN\n")
+                elif kind == "in place":
+                    with open(path, "w", encoding="utf-8") as f:
+                        f.write("alpha beta gamma ADA AGAIN\n")
+                else:
+                    # It has the old file open, and writes after that has lost its name.
+                    subprocess.Popen([sys.executable, "-c", "import sys, time; f = open(sys.argv[1], 'w'); f.write('alpha beta '); f.flush(); time.sleep(.4); f.write('gamma ADA AGAIN\\n'); f.close()", path])
+                    while os.path.getsize(path) != 11:
+                        time.sleep(.01)
+            return real(path, data, expected)
+        note.put = put
+        try:
+            assert ada.rls("sync") == 0, ada.said
+        finally:
+            note.put, files.renamed = real, real_renamed
+        ada.rls("sync")
+        assert ada.read() == "alpha BEN beta gamma ADA AGAIN\n", (kind, ada.read(), ada.said)
+
+
+def test_held_by_an_editor() -> None:
+    ada, ben = started("held")
+    with Session(ada.circle().replica(ada.circle().texts()[0].group)):
+        ada.write("Bread and green tea\n")
+        assert ada.rls("sync") == 73 and "has its replica open" in ada.said and "process" in ada.said, ada.said
+    assert ada.rls("sync") == 0 and ben.rls("sync") == 0 and ben.read() == "Bread and green tea\n"
+
+
+def test_kept() -> None:
+    """A replica that has become large says for whom, once; and `who` shows it."""
+    ada, ben = started("kept", members="3")
+    kept_for.MOST_KEPT = 30_000
+    ada.rls("sync")
+    circle = ada.circle()
+    with Session(circle.replica(circle.texts()[0].group)) as session:
+        for _ in range(600):
+            session.edit(["i 0 x", "i 0 y", "d 0 1"])
+    ada.rls("sync")
+    assert "kept, most of them for" in ada.said, ada.said
+    ada.rls("sync")
+    assert "kept" not in ada.said
+    assert ada.rls("who") == 0 and re.search(r"1 Ben .* edits behind", ada.out), ada.out
+    kept_for.MOST_KEPT = 1_000_000
+
+
+def test_other_client() -> None:
+    """A client with a mailbox of its own, as the plugins have, works in the replica of a circle, and others sync."""
+    ada, ben = started("client")
+    circle = ben.circle()
+    folder = circle.replica(circle.texts()[0].group)
+    with Session(folder) as session:
+        box = Mailbox(ben.shared, session.head())
+        ada.write("Bread and green tea\n")
+        ada.rls("sync")
+        box.sync(session)
+        assert session.text() == "Bread and green tea\n"
+        session.insert(0, "Brown ")
+        box.sync(session)
+    ada.rls("sync")
+    assert ada.read() == "Brown Bread and green tea\n"
+    assert ben.rls("sync") == 0 and ben.read() == ada.read()
+
+
+def test_killed() -> None:
+    """`rls sync` is killed at any moment. No word is lost, and none comes twice."""
+    ada, ben = started("killed")
+    r, words = random.Random(5), []
+    for k in range(int(os.environ.get("KILLS", "25"))):
+        for p in ada, ben:
+            p.add(f"k{k}{p.name}", r)
+            words.append(f"k{k}{p.name}")
+            env = {**os.environ, "RLS_HOME": p.home, "PYTHONPATH": TOP}
+            process = subprocess.Popen([sys.executable, "-m", "rls", "sync"], env=env, cwd=p.folder, stderr=subprocess.DEVNULL, start_new_session=True)
+            try:
+                process.wait(r.uniform(0.05, float(os.environ.get("LATEST", "0.5"))))
+            except subprocess.TimeoutExpired:
+                os.killpg(process.pid, signal.SIGKILL)
+                process.wait()
+    for p in ada, ben, ada, ben:
+        assert p.rls("sync", "--wait", "5") == 0, p.said
+    assert ada.read() == ben.read()
+    found = re.findall(r"k\d+(?:Ada|Ben)", ada.read())
+    assert sorted(found) == sorted(words), ("lost", set(words) - set(found), "twice", [x for x in found if found.count(x) > 1])
+
+
+def test_windows_file() -> None:
+    """Line ends of Windows and a byte order mark stay in the file, and out of the text."""
+    ada, ben = started("windows", "one\ntwo\n")
+    ada.write("\ufeffone\r\n2\r\nthree\r\n")
+    ada.rls("sync")
+    ben.rls("sync")
+    assert ben.read() == "one\n2\nthree\n", repr(ben.read())
+    ben.write("zero\none\n2\nthree\n")
+    ben.rls("sync")
+    ada.rls("sync")
+    assert ada.read() == "\ufeffzero\r\none\r\n2\r\nthree\r\n", repr(ada.read())
+
+
+def test_carried() -> None:
+    r = random.Random(1)
+
+    def changed(s: str) -> str:
+        for _ in range(r.randint(0, 4)):
+            k = r.randint(0, len(s))
+            s = s[:k] + r.choice(["X", "new words ", "\n", ""]) + s[k + r.choice([0, 0, 3, 9]):]
+        return s
+    for _ in range(600):
+        base = "".join(r.choice("one two three four five".split()) + r.choice(" \n") for _ in range(r.randint(0, 30)))
+        mine, theirs = changed(base), changed(base)
+        assert applied(base, carried(base, mine, base)) == mine
+        assert applied(mine, carried(base, mine, mine)) == mine
+        assert applied(theirs, carried(base, base, theirs)) == theirs
+        applied(theirs, carried(base, mine, theirs))
+
+
+def test_dies_at_each_step() -> None:
+    """Ben's `rls sync` stops at each of its steps: with something of his to go in, with something of Ada's to come, and with a name to follow. No
+    word is lost and none comes twice, and what he saves right after that goes in, too."""
+    for how in "all", "half", "alone":
+        died, step = True, 0
+        while died:
+            step += int(os.environ.get("EACH", "5"))
+            ada, ben = started(f"each-{how}-{step}", "one two three four\n")
+            ada.write("one ADA two three four\n")
+            all_sync([ada])
+            ben.write("one two three BEN four\n")
+            died = ben.dies(step, how, "sync")
+            assert died or ben.said == "", ben.said
+            there = ben.read() if os.path.exists(os.path.join(ben.folder, "a.md")) else None
+            if there is not None:
+                ben.write(there.replace("four", "four LATER"))
+            all_sync([ben, ada, ben, ada])
+            wanted = "one ADA two three BEN four LATER\n" if there is not None else "one ADA two three BEN four\n"
+            assert ada.read() == ben.read() == wanted, (how, step, there, ben.read())
+            assert os.listdir(ben.folder) == ["a.md"], os.listdir(ben.folder)
+            shutil.rmtree(os.path.dirname(os.path.dirname(ada.home)))
+
+
+def test_same_file_again() -> None:
+    """A file that has lost most of its text isn't taken because somebody looks at it again: it has to be saved again."""
+    ada, ben = started("again", "a long text of many words\n" * 20)
+    ben.write("")
+    for _ in range(4):
+        assert ben.rls("sync") == 71 and "more than half" in ben.said, ben.said
+    ben.write("")
+    assert ben.rls("sync") == 0 and ben.read() == "", ben.said
+    all_sync([ada])
+    assert ada.read() == ""
+
+
+def test_message_in_between() -> None:
+    """A message comes while a round goes on that has read the folder already, and a save right after the file was written: the next round sees
+    them, though nothing changes any more."""
+    ada, ben = started("message-between")
+    all_sync([ada, ben] * 3)
+    real, done = note.Watched.close, []
+
+    def close(self: note.Watched) -> None:
+        if not done:
+            done.append(1)
+            home = os.environ["RLS_HOME"]
+            ada.write("Bread and green tea\n")
+            assert ada.rls("sync") == 0, ada.said
+            os.environ["RLS_HOME"] = home
+            os.chdir(ben.folder)
+            ben.write(ben.read() + "last\n")
+        real(self)
+    ben.add("word", random.Random(1))
+    note.Watched.close = close          # type: ignore[method-assign]
+    try:
+        all_sync([ben])
+    finally:
+        note.Watched.close = real       # type: ignore[method-assign]
+    all_sync([ben])
+    assert "green" in ben.read() and "last" in ben.read(), ben.read()
+    all_sync([ben, ada])
+    assert ada.read() == ben.read() and "word" in ada.read()
+
+
+def test_deleted_in_between() -> None:
+    """A short file is deleted just when it is to be replaced: that deletes nothing of the text."""
+    ada, ben = started("deleted-between", "alpha beta\n")
+    ben.write("alpha BEN beta\n")
+    all_sync([ben])
+    real, done = note.put, []
+
+    def put(path: str, data: bytes, expected: Optional[bytes]) -> files.Put:
+        if not done:
+            done.append(1)
+            os.unlink(path)
+        return real(path, data, expected)
+    note.put = put
+    try:
+        all_sync([ada])
+    finally:
+        note.put = real
+    all_sync([ada, ben])
+    assert ada.read() == ben.read() == "alpha BEN beta\n", (ada.read(), ben.read())
+
+
+def test_stopped_before_an_editor() -> None:
+    """A round was stopped before its edits were stored; then an editor opens the text, as `rls where` tells, and makes operations. What the file
+    had goes in still, once."""
+    ada, ben = started("before-editor", "one two three\n")
+    ben.write("one two BEN three\n")
+    step = 1
+    while ben.dies(step, "all", "sync"):
+        with open(note_of(ben).kept, encoding="utf-8") as f:
+            pending = '"pending": [' in f.read()
+        if pending:
+            break
+        step += 1
+    assert pending
+    assert ben.rls("where", ben.shared) == 0
+    folder = ben.out.split("\t")[0]
+    with Session(folder) as session:
+        for k in range(5):
+            session.insert(0, f"editor{k} ")
+    all_sync([ben, ada, ben])
+    assert ada.read() == ben.read() and ada.read().count("BEN") == 1 and ada.read().count("editor") == 5, ada.read()
+
+
+def note_of(p: Person) -> note.Note:
+    circle = p.circle()
+    return note.Note(circle, circle.texts()[0], None, print)
