@@ -1,0 +1,11 @@
+pub mod Inner
+pub mod Kept
+pub mod Told
+pub mod Within
+pub mod Between
+pub mod Apart
+pub mod WritesOn
+pub mod WritesBefore
+pub mod Stay
+pub mod Limits
+pub mod Worlds

@@ -1,0 +1,4 @@
+//! Passages: texts that were inserted apart stand apart.
+#![tactic(auto)]
+
+pub mod laws;
