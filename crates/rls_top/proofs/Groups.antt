@@ -26,6 +26,8 @@ use Rattle.rls_model.proofs.WorldsLaws.{equal_good, fresh_at, fresh_length}
 use Rattle.rls_model.proofs.WorldsLaws as worlds
 use Rattle.rls_model.proofs.OnePlace.{get_set_other, get_set_same, got_below, length-set}
 use Rattle.rls_model.proofs.HistoryNumbers.{front_ops, front_self, front_trans}
+use Rattle.rls_passages.proofs.Apart as passages
+use Rattle.rls_passages.proofs.Worlds.{good_made}
 use Rattle.rls_runs.specs.Runs.{runs_of}
 use Rattle.rls_runs.proofs.RunPlaces.{get_left, get_right}
 use Rattle.rls_seen.specs.Seen.{Seen, fresh}
@@ -322,7 +324,7 @@ ordered g n cs v some a each =
     let s = get_of v.states 0 some in
     let all = one_history v 0 s.0 a.good s.1 in
     let M = all.0 in
-    (M, (all.1).0, (order.law M (all.1).0).0, λ before after i e l. let r = each before after e in let m = moment g n (after_commands (fresh_group g n) before) r.0 v M i r.1 r.2 all.1 l in (m.0, m.2, m.3))
+    (M, (all.1).0, (order.law M (all.1).0).0, passages.law M (all.1).0 (good_made v M a.good all.1), λ before after i e l. let r = each before after e in let m = moment g n (after_commands (fresh_group g n) before) r.0 v M i r.1 r.2 all.1 l in (m.0, m.2, m.3))
 
 pub law : GroupsClean
 law g n cs large some few p =

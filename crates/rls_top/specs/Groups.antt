@@ -14,6 +14,7 @@ use Rattle.rls_model.specs.Parts.{parts}
 use Rattle.rls_model.specs.Receiving.{State}
 use Rattle.rls_model.specs.Taking.{take_message}
 use Rattle.rls_model.specs.WellFormed.{IsLarge}
+use Rattle.rls_passages.specs.Passages.{Apart}
 use Rattle.rls_file.specs.Files.{file_bytes}
 use Rattle.rls_seen.specs.Seen.{Seen}
 use Rattle.rls_world.specs.Seen.{fresh_replicas}
@@ -175,10 +176,10 @@ AllTaken g = (c : MemberCommand) → IsOfGroup g c → command_of c.words ≡ So
 abbrev pub EqualCountsShowSame : Group → Type 0
 EqualCountsShowSame g = (i j : ℕ) (s t : State) (words : List (List ℕ)) (input : List ℕ) → IsFileOf g i s → IsFileOf g j t → count s.history ≡ count t.history → IsReading words → due_of g i words input ≡ due_of g j words input
 
--- one total order of all characters: after any of the commands each member's file stands for a history of that member, which shows its
--- characters in this order
+-- one total order of all characters, in which passages that were written apart stand apart: after any of the commands each member's file
+-- stands for a history of that member, which shows its characters in this order
 abbrev pub InOneOrder : ℕ → ℕ → List MemberCommand → Type 0
-InOneOrder group members cs = (M : History) × IsLegal M × IsTotalOrder (precedes M) (λ c. IsIn c (chars M))
+InOneOrder group members cs = (M : History) × IsLegal M × IsTotalOrder (precedes M) (λ c. IsIn c (chars M)) × Apart M
     × ((before after : List MemberCommand) (i : ℕ) → before ++ after ≡ cs → i < members → (t : State) × IsOfMember group members (after_commands (fresh_group group members) before) i t × IsOrderedBy M t.history)
 
 -- Whatever commands the members of a group give, each over its own file, and however the messages that they write are passed on: no
