@@ -1,13 +1,13 @@
-use Rattle.std.proofs.Common.{◌≡◌, ℕ, zero, suc, length, refl}
-use Rattle.rls_journal.specs.Areas.{Areas, area_of, with_area}
-use Rattle.rls_journal.specs.MemoryLaws.{torn_same}
+use Rattle.std.proofs.Common.{◌≡◌, ◌∙◌, ap}
+use Rattle.test_devices.specs.Lossy.{Moments, changed, state_of, wrote}
+use Rattle.test_devices.proofs.Losing.{goes_on, written_follows}
 use Rattle.test_devices.proofs.lossy.LossyDiskDisk.write.Goals as goal
 
-same_areas : (c : Areas) (area : ℕ) → c ≡ with_area c area (area_of c area)
-same_areas c zero = refl
-same_areas c (suc zero) = refl
-same_areas c (suc (suc n)) = refl
+written : (c : goal.In-Ok) → c.write.new.self ≡ changed c.args.self.now.moments c.args.area (wrote (state_of c.args.self.now.moments.areas c.args.area) c.args.at c.args.bytes.now)
+written c = c.in-Ok.ensures.wrote ∙ ap (λ (m : Moments). changed m c.args.area (wrote (state_of m.areas c.args.area) c.args.at c.args.bytes.now)) c.works.ensures.same
 
--- a crash may leave anything, as before
-pub returns-clause-crash : goal.returns-clause-crash
-returns-clause-crash c = λ image left. (image, tt, record { torn = torn_same (area_of image c.args.area) c.args.at (length c.args.bytes.now); others = same_areas image c.args.area })
+pub returns-in-Ok-clause-crash : goal.returns-in-Ok-clause-crash
+returns-in-Ok-clause-crash c = written_follows c.args.self.now.moments c.write.new.self c.args.area c.args.at c.args.bytes.now c.requires.within (ap (λ (m : Moments). m.areas) (written c))
+
+pub returns-in-Ok-clause-time : goal.returns-in-Ok-clause-time
+returns-in-Ok-clause-time c = goes_on c.args.self.now.moments c.write.new.self (ap (λ (m : Moments). m.past) (written c))
