@@ -26,3 +26,14 @@ export class Stale extends RlsError {
     super(71, line);
   }
 }
+
+/** Two replicas write with one number, or two copies of one. Nothing more is written into the shared folder. */
+export class UsedTwice extends Stale {
+  constructor(file, { group, me }, why) {
+    super(
+      `number ${me} of text ${group} is used twice: ${why}, as ${file} shows. Nothing more is sent from here. Keep what \`rls text\` prints, and ` +
+        'begin in a new folder with a number that nobody has used; the other one goes on. If there is no other one, delete that file ' +
+        '(docs/USE.md, "A number used twice")',
+    );
+  }
+}

@@ -1,76 +1,27 @@
 // Messages through a folder that all members see: a file `GROUP-FROM-TO.rlsm` from each member to each other one, which has all that its
 // receiver isn't known to have, so only the latest is kept. It may be replaced, lost, or come late or twice.
-import { createHash, randomBytes } from 'node:crypto';
-import { constants, promises as fs } from 'node:fs';
+import { createHash } from 'node:crypto';
+import { promises as fs } from 'node:fs';
 import path from 'node:path';
-import { Refused, RlsError, Stale } from './errors.js';
+import { Refused, RlsError, Stale, UsedTwice } from './errors.js';
+import { regular, replace, sizeOf, timesOf } from './files.js';
 import { headOf } from './reports.js';
+import * as tokens from './tokens.js';
 
 const MOST_MESSAGE = 67_108_864;
 const MOST_CURSOR = 65_536; // bytes of a file with a cursor
 const MOST_NAME = 40; // characters of a name beside a cursor
 
-/**
- * The bytes of a regular file; null if nothing is there. A folder that others write into may have a link, a pipe or a folder at a name, or a
- * file that fills the memory: those are an RlsError.
- */
-async function regular(file, most) {
-  let handle;
-  try {
-    handle = await fs.open(file, constants.O_RDONLY | constants.O_NONBLOCK | constants.O_NOFOLLOW);
-  } catch (error) {
-    if (error.code === 'ENOENT') return null;
-    throw new RlsError(8, error.code === 'ELOOP' ? `${file} is a link` : error.message);
-  }
-  try {
-    const told = await handle.stat();
-    if (!told.isFile()) throw new RlsError(8, `${file} is no file`);
-    if (told.size > most) throw new RlsError(11, `${file} has more than ${most} bytes`);
-    const data = Buffer.alloc(told.size);
-    const { bytesRead } = told.size > 0 ? await handle.read(data, 0, told.size, 0) : { bytesRead: 0 };
-    return data.subarray(0, bytesRead);
-  } catch (error) {
-    throw error instanceof RlsError ? error : new RlsError(8, error.message);
-  } finally {
-    await handle.close();
-  }
-}
-
-/** How many bytes a regular file has; null if there is none at this name. */
-async function sizeOf(file) {
-  const told = await fs.lstat(file).catch(() => null);
-  return told?.isFile() ? told.size : null;
-}
-
-/**
- * Writes a file so that whoever reads it sees the old one or the new one. It is made under a name that nobody can know before, and a link at
- * its own name is replaced, and not written through.
- */
-async function replace(file, data) {
-  const made = path.join(path.dirname(file), `.new-${randomBytes(16).toString('hex')}`);
-  const handle = await fs.open(made, 'wx');
-  try {
-    await handle.writeFile(data);
-    await handle.sync();
-  } finally {
-    await handle.close();
-  }
-  try {
-    await fs.rename(made, file);
-  } catch (error) {
-    await fs.unlink(made);
-    throw new RlsError(9, error.message);
-  }
-}
-
 /** A name as it may be shown: without what a screen would take for more than a letter, and not too long. */
 const shown = (name) =>
   [...name.replace(/[\p{C}\p{Zl}\p{Zp}]/gu, '')].slice(0, MOST_NAME).join('').trim();
 
+/** A mailbox of one member. What shows that another replica writes with its number is a UsedTwice, from every call, until its file is gone. */
 export class Mailbox {
   #taken = new Map();
   #sent = new Map();
   #shownCursor = '';
+  #quiet = ''; // what both folders were like in a round in which nothing came and nothing went
 
   /** A mailbox in a folder, for the member that `session.head()` answers. */
   static async open(folder, session) {
@@ -89,11 +40,21 @@ export class Mailbox {
     return Array.from({ length: this.head.members }, (_, k) => k).filter((k) => k !== this.head.me);
   }
 
+  /** The names in the folder that are of this text. */
+  async #names() {
+    return (await fs.readdir(this.folder)).filter((name) => name.startsWith(`${this.head.group}-`)).sort();
+  }
+
+  async #look(session) {
+    await tokens.look(this.folder, this.head, session.folder, await this.#names());
+  }
+
   /**
    * Takes what is new. The answer is a list of `{ from, report }`, or `{ from, error }` for what couldn't be taken, which stops no other
    * member's message. A Stale is thrown.
    */
   async receive(session) {
+    await this.#look(session);
     const found = [];
     for (const from of this.#others()) {
       try {
@@ -135,28 +96,71 @@ export class Mailbox {
     return there !== null && 2 * there > message.length && headOf(message).accepted[to] === 0 && (await sizeOf(this.path(to, this.head.me))) === null;
   }
 
+  /**
+   * Whether this message is in the folder already. One of an older state of the folder has another size. It is a UsedTwice if what is there
+   * was written with this number, and not by this replica.
+   */
+  async #isThere(session, to, message, mark) {
+    const file = this.path(this.head.me, to);
+    if (this.#sent.get(to) === mark && (await sizeOf(file)) === message.length) return true;
+    const there = await regular(file, MOST_MESSAGE).catch(() => null);
+    if (!there) return false;
+    if (there.equals(message)) {
+      this.#sent.set(to, mark);
+      return true;
+    }
+    let head;
+    try {
+      head = headOf(there);
+    } catch {
+      return false;
+    }
+    const own = await session.head();
+    const isOwn = head.group === own.group && head.members === own.members && head.me === own.me;
+    if (isOwn && head.accepted[own.me] > own.accepted[own.me]) {
+      throw new UsedTwice(file, own, 'it has more operations of this number than this replica has made');
+    }
+    return false;
+  }
+
   /** Stores, and writes what is new. The answer is a list of `{ to, error }` for what couldn't be written, which stops no other member's. */
   async send(session) {
-    const found = [];
+    return (await this.#send(session)).failed;
+  }
+
+  async #send(session) {
+    await this.#look(session);
+    const failed = [];
+    let count = 0;
     for (const to of this.#others()) {
       const message = await session.message(to);
       const mark = createHash('sha256').update(message).digest('hex');
-      // Of an older state of the folder, which came back, what is there would have another size.
-      const isThere = this.#sent.get(to) === mark && (await sizeOf(this.path(this.head.me, to))) === message.length;
-      if (isThere || (await this.#isEnough(to, message))) continue;
+      if ((await this.#isThere(session, to, message, mark)) || (await this.#isEnough(to, message))) continue;
       try {
+        if (count === 0) await tokens.show(this.folder, this.head, session.folder);
         await replace(this.path(this.head.me, to), message);
         this.#sent.set(to, mark);
+        count += 1;
       } catch (error) {
-        found.push({ to, error });
+        failed.push({ to, error });
       }
     }
-    return found;
+    return { failed, count };
   }
 
-  /** Takes what came, and sends what is new: `{ received, failed }`. */
+  /** What names, sizes and times in both folders are. The gate's time says nothing: what only reads renews it. */
+  async #mark(session) {
+    return `${await timesOf(session.folder, ['replica.0', 'replica.1', 'replica.rls'])}\n\n${await timesOf(this.folder, await this.#names())}`;
+  }
+
+  /** Takes what came, and sends what is new: `{ received, failed }`. Where nothing has changed, it looks at names and times alone. */
   async sync(session) {
-    return { received: await this.receive(session), failed: await this.send(session) };
+    const before = await this.#mark(session);
+    if (!session.isUnsaved && before === this.#quiet) return { received: [], failed: [] };
+    const received = await this.receive(session);
+    const { failed, count } = await this.#send(session);
+    this.#quiet = received.length + failed.length + count === 0 ? before : '';
+    return { received, failed };
   }
 
   // --- Cursors, which no message has: a file for each member
@@ -169,6 +173,7 @@ export class Mailbox {
   async showCursor(session, at, name = '') {
     const line = `${await session.place(at)} ${shown(name)}`.trim();
     if (line === this.#shownCursor) return;
+    await this.#look(session);
     await replace(this.cursorPath(this.head.me), `${line}\n`);
     this.#shownCursor = line;
   }

@@ -1,5 +1,5 @@
 // A client of `rls`: a replica by one session, and messages through a shared folder. README.md shows a program.
-export { Refused, RlsError, Stale } from './errors.js';
+export { Refused, RlsError, Stale, UsedTwice } from './errors.js';
 export { crossed, placeAfter } from './changes.js';
 export { compared } from './compare.js';
 export { applied, Text } from './text.js';

@@ -1,73 +1,13 @@
-// Tests: `node --test test.js` in this folder. RLS names the program; it is bin/rls of this checkout otherwise.
+// Tests of texts, changes and sessions, and those of test-mailbox.js: `node --test test.js` in this folder.
 import assert from 'node:assert/strict';
 import { execFileSync, spawn } from 'node:child_process';
 import fs from 'node:fs';
-import os from 'node:os';
 import path from 'node:path';
-import { after, before, test } from 'node:test';
-import { fileURLToPath } from 'node:url';
-import { applied, compared, crossed, Mailbox, placeAfter, Refused, RlsError, Session, Stale, Text } from './rls.js';
+import { test } from 'node:test';
 import { changesOf, CHARACTERS } from './changes.js';
-
-process.env.RLS ??= fileURLToPath(new URL('../../bin/rls', import.meta.url));
-const rls = path.resolve(process.env.RLS);
-const room = fs.mkdtempSync(path.join(os.tmpdir(), 'rls-node-'));
-let rooms = 0;
-let version = 1;
-after(() => fs.rmSync(room, { recursive: true }));
-
-/** Folders of fresh members of one text, in a folder whose name has what names may have. */
-function folders(count, members = count) {
-  rooms += 1;
-  const top = path.join(room, `a b\n'${rooms}`);
-  return Array.from({ length: count }, (_, k) => {
-    const folder = path.join(top, String(k));
-    fs.mkdirSync(folder, { recursive: true });
-    execFileSync(rls, ['new', '18446744073709551615', String(k), String(members)], { cwd: folder });
-    return folder;
-  });
-}
-
-const stored = (folder) => execFileSync(rls, ['text'], { cwd: folder }).toString();
-
-async function opened(t, count, members) {
-  const all = [];
-  for (const folder of folders(count, members)) {
-    const session = await Session.open(folder, { program: rls });
-    t.after(() => session.kill());
-    session.shown = '';
-    session.on('change', (changes) => {
-      for (const { at, count: gone, text } of changes) session.shown = session.shown.slice(0, at) + text + session.shown.slice(at + gone);
-    });
-    all.push(session);
-  }
-  return all;
-}
-
-/** Types as an editor does: what it shows has the edit at once. */
-function type(session, at, count, string) {
-  session.shown = session.shown.slice(0, at) + string + session.shown.slice(at + count);
-  return session.replace(at, count, string);
-}
-
-const exchange = async (a, b) => {
-  await b.take(await a.message(1));
-  await a.take(await b.message(0));
-};
-
-let seed = 7;
-const random = (below) => {
-  seed = (Math.imul(seed, 1_103_515_245) + 12_345) >>> 0;
-  return Math.floor((seed / 4_294_967_296) * below);
-};
-const pick = (list) => list[random(list.length)];
-
-before(async () => {
-  const [folder] = folders(1);
-  const session = await Session.open(folder, { program: rls });
-  version = session.version;
-  await session.close();
-});
+import { applied, compared, crossed, placeAfter, Refused, RlsError, Session, Text } from './rls.js';
+import { exchange, folders, opened, pick, random, rls, room, stored, type, version } from './room.js';
+import './test-mailbox.js';
 
 test('places in units and in characters', () => {
   let string = '';
@@ -225,15 +165,14 @@ test('two type at once, and what each shows is the text', async (t) => {
 
 /** A program that also writes down what it is asked, and the lines that were asked since. */
 function listened() {
-  rooms += 1;
-  const [program, log] = [path.join(room, `listened-${rooms}`), path.join(room, `asked-${rooms}`)];
-  fs.writeFileSync(program, `#!/bin/bash\n[ "$1" = session ] || exec "${rls}" "$@"\ntee "${log}" | "${rls}" session\n`, { mode: 0o755 });
-  return { program, asked: () => fs.readFileSync(log, 'utf8').split('\n').filter((line) => /^[eid] /.test(line)) };
+  const [folder] = folders(1);
+  const [program, log] = [path.join(folder, '../program'), path.join(folder, '../asked')];
+  fs.writeFileSync(program, `#!/bin/bash\ntee "$(dirname "$0")/asked" | "${rls}" session\n`, { mode: 0o755 });
+  return { folder, program, asked: () => fs.readFileSync(log, 'utf8').split('\n').filter((line) => /^[eid] /.test(line)) };
 }
 
 test('a change is one request with the third version, and otherwise what comes is asked for first', async (t) => {
-  const { program, asked } = listened();
-  const [folder] = folders(1);
+  const { folder, program, asked } = listened();
   const a = await Session.open(folder, { program });
   t.after(() => a.kill());
   await a.insert(0, 'one \u{1F600} three\n');
@@ -357,102 +296,6 @@ test('undo and redo after storing, beside others', async (t) => {
   await a.redo();
   assert.equal(a.text, 'lo from another');
   assert.equal(a.shown, a.text);
-  return undefined;
-});
-
-test('messages through a folder', async (t) => {
-  const all = await opened(t, 2, 3);
-  const shared = path.join(path.dirname(all[0].folder), 'shared');
-  const boxes = [await Mailbox.open(shared, all[0]), await Mailbox.open(shared, all[1])];
-  const sizes = new Set();
-  for (let step = 0; step < 30; step += 1) {
-    const k = random(2);
-    await type(all[k], random(all[k].shown.length + 1), 0, 'word');
-    await boxes[k].sync(all[k]);
-    sizes.add(fs.statSync(boxes[0].path(0, 2), { throwIfNoEntry: false })?.size);
-  }
-  for (let round = 0; round < 2; round += 1) for (const k of [0, 1]) await boxes[k].sync(all[k]);
-  assert.equal(all[0].text, all[1].text);
-  assert.equal(all[0].shown, all[0].text);
-  assert.ok(sizes.size < 8, 'a number that nobody uses gets few messages');
-  assert.deepEqual(await boxes[0].sync(all[0]), { received: [], failed: [] });
-  assert.deepEqual(fs.readdirSync(shared).filter((name) => name.startsWith('.new')), []);
-});
-
-test('a folder that comes back as it was before', async (t) => {
-  const [a, b] = await opened(t, 2, 2);
-  const shared = path.join(path.dirname(a.folder), 'shared');
-  const boxes = [await Mailbox.open(shared, a), await Mailbox.open(shared, b)];
-  await type(a, 0, 0, 'one');
-  for (const [box, member] of [[boxes[0], a], [boxes[1], b], [boxes[0], a]]) await box.sync(member);
-  fs.cpSync(shared, `${shared}-before`, { recursive: true });
-  await type(a, 3, 0, ' two');
-  await boxes[0].sync(a);
-  fs.rmSync(shared, { recursive: true });
-  fs.renameSync(`${shared}-before`, shared);
-  await boxes[0].sync(a);
-  await boxes[1].sync(b);
-  assert.equal(b.text, 'one two');
-});
-
-test('what others put into the folder', { timeout: 60_000 }, async (t) => {
-  const [a, b] = await opened(t, 2, 8);
-  const shared = path.join(path.dirname(a.folder), 'shared');
-  const box = await Mailbox.open(shared, a);
-  await b.insert(0, 'hello');
-  await (await Mailbox.open(shared, b)).send(b);
-  const victim = path.join(path.dirname(shared), 'victim');
-  fs.writeFileSync(victim, 'mine');
-  fs.symlinkSync(box.path(1, 0), box.path(2, 0));
-  execFileSync('mkfifo', [box.path(3, 0)]);
-  fs.mkdirSync(box.path(4, 0));
-  fs.writeFileSync(box.path(5, 0), '');
-  fs.truncateSync(box.path(5, 0), 67_108_865);
-  fs.writeFileSync(box.path(6, 0), fs.readFileSync(box.path(1, 0)).subarray(0, 40));
-  fs.writeFileSync(box.path(7, 0), 'RLSM and more than a head of a message has');
-  fs.rmSync(box.path(0, 1), { force: true });
-  fs.symlinkSync(victim, box.path(0, 1));
-  fs.mkdirSync(box.path(0, 2));
-  const { received, failed } = await box.sync(a);
-  assert.equal(a.text, 'hello');
-  assert.deepEqual(received.map(({ from, error }) => [from, error?.status]), [[1, undefined], [2, 8], [3, 8], [4, 8], [5, 11], [6, 6], [7, 6]]);
-  assert.deepEqual(failed.map(({ to }) => to), [2]);
-  assert.equal(fs.readFileSync(victim, 'utf8'), 'mine');
-  assert.ok(fs.lstatSync(box.path(0, 1)).isFile());
-});
-
-test('files that were put back from a copy', async (t) => {
-  const [a, b] = await opened(t, 2);
-  await a.insert(0, 'x');
-  await b.take(await a.message(1));
-  await a.close();
-  for (const name of fs.readdirSync(a.folder)) fs.rmSync(path.join(a.folder, name));
-  execFileSync(rls, ['new', '18446744073709551615', '0', '2'], { cwd: a.folder });
-  const again = await Session.open(a.folder, { program: rls });
-  t.after(() => again.kill());
-  const shared = path.join(path.dirname(a.folder), 'shared');
-  const box = await Mailbox.open(shared, again);
-  fs.writeFileSync(box.path(1, 0), await b.message(0));
-  await assert.rejects(box.sync(again), Stale);
-});
-
-test('cursors of others', async (t) => {
-  if (version === 1) return t.skip('the program has the first version of the session');
-  const [a, b] = await opened(t, 2, 5);
-  const shared = path.join(path.dirname(a.folder), 'shared');
-  const boxes = [await Mailbox.open(shared, a), await Mailbox.open(shared, b)];
-  await a.insert(0, '\u{1F600}text');
-  await boxes[0].sync(a);
-  await boxes[0].showCursor(a, 4, 'Ada\u001b[2J');
-  await boxes[1].sync(b);
-  await b.insert(0, 'one ');
-  fs.writeFileSync(boxes[1].cursorPath(2), 'q\nq\n');
-  execFileSync('mkfifo', [boxes[1].cursorPath(3)]);
-  fs.writeFileSync(boxes[1].cursorPath(4), ' \n');
-  assert.deepEqual(await boxes[1].cursors(b), [{ from: 0, at: 8, name: 'Ada[2J' }]);
-  await b.putCursor(4, { cursor: 5, before: true });
-  await b.insert(4, 'two ');
-  assert.equal(await b.cursor(5), 8);
   return undefined;
 });
 

@@ -249,7 +249,7 @@ class ByCommands(Room):
                 os.umask(old)
             self.assertEqual(os.stat(box.path(0, 1)).st_mode & 0o777, mode)
             os.unlink(box.path(0, 1))
-        self.assertEqual(os.listdir(self.path("shared")), [])
+        self.assertEqual([x for x in os.listdir(self.path("shared")) if not x.endswith(".member")], [])
 
     def test_what_is_no_message(self):
         """A link, a pipe, a folder, a file that is too large, one of another text and one that may not be read, each at a member's name:
@@ -296,7 +296,7 @@ class ByCommands(Room):
         with warnings.catch_warnings():
             warnings.simplefilter("error")
             self.assertEqual(box.send(a), 0)
-        self.assertEqual(len(os.listdir(self.path("shared"))), 3)
+        self.assertEqual(len([x for x in os.listdir(self.path("shared")) if x.endswith(".rlsm")]), 3)
 
     def test_half_written(self):
         a, b = self.two()
