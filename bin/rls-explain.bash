@@ -43,7 +43,7 @@ explain() {
     '4 other group '*) say "the message is of text number ${words[2]} with ${words[3]} members, and the replica here is of another; \`rls stat\` says of which. Nothing was taken." ;;
     '5 '*) say 'all else was done. An operation that can not be right comes from a member that broke a rule: a number that was used twice, files put back from a copy, or another program (docs/USE.md, "Rules").' ;;
     '6 line '*) explain_refused "${words[1]%:}" "${line#*: }" "$command" ;;
-    '7 '*) say "the files of the replica in $PWD can't be read or written: is the disk full, or who may write there? The command may have been stored all the same: look at \`rls text\` before you repeat it." ;;
+    '7 '*) explain_keeper ;;
     '8 '*) say "the input can't be read. Nothing was stored." ;;
     '9 '*)
       case $command in
@@ -54,6 +54,31 @@ explain() {
     '10 '*) say "whether anything was stored is for \`rls text\` to show. It may help to close other programs." ;;
     '11 '*) say 'the input may have 67,108,864 bytes, and the stored file 268,435,456. Nothing was stored (docs/USE.md, "Limits").' ;;
   esac
+}
+
+# The program doesn't say why. So what it does is tried here: each file is opened, and as much as the stored one has, and 64 KB, is written beside it.
+# `why` is what the system says; it is empty if all of this works by now.
+ask_system() {
+  # shellcheck disable=SC2034
+  local name stored before size=65536
+  for name in replica.rls replica.gate replica.0 replica.1; do
+    [ -e "$name" ] || continue
+    why=$({ : <"$name" && : >>"$name"; } 2>&1) || return 0
+  done
+  if find_stored; then size=$((65536 + $(stat -c %s "$stored" 2>/dev/null || echo 0))); fi
+  why=$( (: >"replica.probe.$$" && head -c "$size" /dev/zero >"replica.probe.$$") 2>&1)
+  rm -f "replica.probe.$$"
+}
+
+explain_keeper() {
+  local why='' after='The command may have been stored all the same: look at `rls text` before you repeat it.'
+  ask_system
+  why=${why##*: }
+  if [ -n "$why" ]; then
+    say "the files of the replica in $PWD can't be read or written. The system says: $why. $after"
+  else
+    say "the files of the replica in $PWD can't be read or written: is the disk full, or who may write there? $after"
+  fi
 }
 
 explain_bad_line() {

@@ -1,6 +1,6 @@
 # `rls take`: bin/rls reads this for it, after rls-store.bash and rls-heads.bash.
 # shellcheck shell=bash
-# bin/rls sets `program`, `status`, `say` and `tell`; rls-heads.bash sets `read_own`, `read_bytes`, `count_at` and `refuse_stale`; rls-store.bash sets
+# bin/rls sets `program`, `status`, `say`, `refuse` and `tell`; rls-heads.bash sets `read_own`, `read_bytes`, `count_at` and `refuse_stale`; rls-store.bash sets
 # `hold_input`.
 # shellcheck disable=SC2154
 
@@ -17,10 +17,20 @@ guard() {
     [ "${one:5:12}" = "${mine[0]:5:12}" ] && [ "${two:5:12}" = "${mine[1]:5:12}" ] || return 0
   theirs=("$one" "$two")
   count_at "$me"
+  if [ "${one:17:4}" = "${mine[0]:17:4}" ] && [ "${two:17:4}" = "${mine[1]:17:4}" ]; then
+    if [ "$number" -gt "$made" ]; then refuse_used_twice; fi
+    say "the message is from number $me, which is this replica's own. If \`rls send\` didn't make it in this folder, number $me is used twice (docs/USE.md, \"A number used twice\")."
+  fi
   [ "$number" -gt "$made" ] || return 0
   parse_head
   { echo "$group-$members-$me $number $whose" >replica.stale; } 2>/dev/null
   refuse_stale "$number" "$made" "$me" "$whose" 'Nothing was taken.'
+}
+
+refuse_used_twice() {
+  refuse "the message is from number $me, which is this replica's own, and has $number operations of it; this replica has made $made. So number $me is" \
+    'used twice, or the files here were put back from a copy. Nothing was taken. Keep what `rls text` prints, and begin in a new folder with a' \
+    'number that nobody has used (docs/USE.md, "A number used twice").'
 }
 
 # After a message was taken: says whose operations its sender knows and this replica doesn't. These weren't in the message, or they wait.

@@ -113,3 +113,16 @@ printf 'RLSM\011%0300d' 0 >newer
 expect 'the head of a newer message' 4 "$(status_of "$rls" head <newer)"
 expect 'the head of a newer message: what it means' yes "$(says 'a newer program')"
 expect 'the head of a file' 4 "$(cat old/replica.rls old/replica.0 2>/dev/null | status_of "$rls" head)"
+
+# --- A number that two replicas use.
+mkdir u0 u1
+for k in 0 1; do (cd u$k && "$rls" new 7 0 2 >/dev/null && echo "i 0 by-$k" | "$rls" edit >/dev/null && "$rls" send 1 >../u$k.message); done
+expect 'a message of the own number' 0 "$(cd u0 && status_of "$rls" take <../u1.message)"
+expect 'a message of the own number: what it may mean' yes "$(says 'from number 0, which is this replica.s own. If .rls send. didn.t make it in this folder, number 0 is used twice')"
+(cd u1 && echo 'i 0 more' | "$rls" edit >/dev/null && "$rls" send 1 >../u1.message)
+expect 'a message of the own number that has more' 71 "$(cd u0 && status_of "$rls" take <../u1.message)"
+expect 'a message of the own number that has more: what it means' yes "$(says 'has 2 operations of it; this replica has made 1. So number 0 is')"
+expect 'a message of the own number that has more: nothing was taken' by-0 "$(cd u0 && "$rls" text)"
+# Corrections go on with the run of identifiers that they correct.
+mkdir corrected && (cd corrected && "$rls" new 7 0 2 >/dev/null && for k in wrold worls worlz world; do printf 'hello %s' $k >../file && "$rls" edit --text ../file >/dev/null; done)
+expect 'a text that is corrected has few runs' yes "$(cd corrected && [ "$("$rls" stat | sed -n 's/^runs //p')" -le 3 ] && echo yes)"

@@ -55,8 +55,26 @@ for tool in sed awk tr cat; do
   expect "no comparison: $tool" 8 "$(tools with "$tool" 'exit 2' status_of "$rls" edit --text ../file)"
 done
 expect 'no comparison: nothing was done' xxxxonetwo "$(tools "$rls" text)"
-expect 'a comparison without the command diff' 0 "$(rm -rf differing && cp -r tools differing && cd differing && with diff 'exit 2' status_of "$rls" edit --text ../file)"
 expect 'no sums' '' "$(tools with cksum 'exit 1' "$rls" check 2>/dev/null || echo ''; cat out)"
 expect 'a message is looked at without the command od' 71 "$(cd backup && with od 'exit 1' status_of "$rls" take <../m2)"
 expect 'no sums: what it means' yes "$(tools with cksum 'exit 1' status_of "$rls" check >out; says 'the sums could not be made')"
 expect 'no look at a number' 7 "$(tools with od 'exit 1' status_of "$rls" retire 0)"
+
+expect 'a comparison without the command diff' 0 "$(rm -rf differing && cp -r tools differing && cd differing && with diff 'exit 2' status_of "$rls" edit --text ../file)"
+
+# --- What the system says where the keeper of the files failed.
+printf '#!/bin/sh\necho "keeper fault" >&2\nexit 7\n' >broken && chmod +x broken
+keeper() { (cd "$room/$1" && shift && RLS_PROGRAM=$room/broken "$@"); }
+expect 'a keeper fault' 7 "$(keeper tools status_of "$rls" text)"
+expect 'a keeper fault of which the system says nothing' yes "$(says 'is the disk full, or who may write there. The command may have been stored')"
+expect 'a full disk' 7 "$(keeper tools with head 'echo "head: error writing: No space left on device" >&2; exit 1' status_of "$rls" text)"
+expect 'a full disk: what the system says' yes "$(says 'The system says: No space left on device. The command may')"
+cp -r tools odd-file && rm odd-file/replica.1 && mkdir odd-file/replica.1
+expect 'a folder in place of a file' 7 "$(keeper odd-file status_of "$rls" text)"
+expect 'a folder in place of a file: what the system says' yes "$(says 'The system says: Is a directory')"
+expect 'a keeper fault leaves nothing in the folder' '' "$(ls tools/replica.probe* 2>/dev/null)"
+if mkdir small && mount -t tmpfs -o size=100k none small 2>/dev/null; then
+  expect 'a disk that is full' 7 "$(cd small && "$rls" new 7 0 1 >/dev/null && head -c 150000 /dev/zero | tr '\0' x | sed 's/^/i 0 /' | status_of "$rls" edit)"
+  expect 'a disk that is full: what the system says' yes "$(says 'The system says: No space left on device')"
+  umount small
+fi
