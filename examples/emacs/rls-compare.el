@@ -257,7 +257,9 @@ Their places are those of OLD."
          (key (lambda (line) (replace-regexp-in-string "[\t-\r ]+" "" line t t)))
          (a 0) (b 0) (i 0) (j 0) (last (length olds)))
     (save-match-data
-      (dolist (pair (append (rls-compare--align (vconcat (mapcar key olds)) (vconcat (mapcar key news)) t) (list (cons last (length news)))))
+      ;; Where one of them has nothing but spaces, as in a place of many that a command replaces, there is nothing to look for.
+      (dolist (pair (when (and (string-match-p "[^\t-\r ]" old) (string-match-p "[^\t-\r ]" new))
+                      (append (rls-compare--align (vconcat (mapcar key olds)) (vconcat (mapcar key news)) t) (list (cons last (length news))))))
         (let ((p a) (q b) gone come)
           (while (< i (car pair)) (setq p (+ p (length (car olds))) i (1+ i)) (push (pop olds) gone))
           (while (< j (cdr pair)) (setq q (+ q (length (car news))) j (1+ j)) (push (pop news) come))

@@ -17,6 +17,7 @@
 (defvar-local rls--waiting nil
   "A request without a reply after the other.
 Each is its first character, and what handles its reply.")
+(defvar-local rls--waiting-end nil "The last cell of `rls--waiting'.")
 (defvar-local rls--failed nil "Why nothing more is done with this buffer.")
 (defvar-local rls--fault nil "What is wrong, until all is stored.")
 (defvar-local rls--heard 0 "When the session answered last, or was asked when it had answered all.")
@@ -106,8 +107,10 @@ the session is TELLING them."
   (unless (and rls--process (process-live-p rls--process)) (error "rls: the session has ended"))
   (unless rls--waiting (setq rls--heard (float-time)))
   (let ((sent (concat (encode-coding-string request 'utf-8-unix) "\n" data)))
-    (setq rls--given (+ rls--given (length sent))
-          rls--waiting (nconc rls--waiting (list (cons (aref request 0) handler))))
+    (setq rls--given (+ rls--given (length sent)))
+    (let ((entry (list (cons (aref request 0) handler))))
+      (if rls--waiting (setcdr rls--waiting-end entry) (setq rls--waiting entry))
+      (setq rls--waiting-end entry))
     (process-send-string rls--process sent)))
 
 (defun rls--ask-all (request &optional data)

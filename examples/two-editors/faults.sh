@@ -68,7 +68,7 @@ play_fault() {
   mkdir -p "$room/disk"
   if [ "$(id -u)" = 0 ] && mount -t tmpfs -o size=400k none "$room/disk" 2>/dev/null; then
     disk=$room/disk
-    trap 'leave_tmux; umount -l "$room/disk" 2>/dev/null; rm -rf "$room"' EXIT
+    trap 'leave_tmux; umount -l "$room/disk" 2>/dev/null || true; rm -rf "$room"' EXIT
     mv "$room/ada" "$disk/ada" && ln -s disk/ada "$room/ada"
     begin "$1"
     shows 'the text' 'Start one'
@@ -147,15 +147,14 @@ play_large() {
   million=$(printf 'x%.0s' {1..1024})
   million=$(for _ in {1..1024}; do printf %s "$million"; done)
   (cd "$room/ben" && for _ in 1 2 3; do for _ in {1..21}; do printf 'i 0 %s\nd 0 1048576\n' "$million"; done | "$RLS" edit >/dev/null; done
-    cp -r . ../other && cd ../other && "$RLS" edit >/dev/null <<<'i 0 end' && "$RLS" send 0 | wc -c >../size)
+    cp -r . ../other && cd ../other && "$RLS" edit >/dev/null <<<$'i 0 end\ni 3 x\nd 3 1' && "$RLS" send 0 | wc -c >../size)
   read -r size <"$room/size"
-  size=$((67108864 - size))
-  (cd "$room/ben" && printf 'i 0 end%s\n' "${million:0:size}" | "$RLS" edit >/dev/null && "$RLS" send 0 >"$room/shared/7-1-0.rlsm")
+  size=$((67108864 - size + 1))
+  (cd "$room/ben" && printf 'i 0 end\ni 3 %s\nd 3 %s\n' "${million:0:size}" "$size" | "$RLS" edit >/dev/null && "$RLS" send 0 >"$room/shared/7-1-0.rlsm")
   size=$(stat -c %s "$room/shared/7-1-0.rlsm")
   [ "$size" = 67108864 ] || { echo "FAILED  a message of $size bytes"; exit 1; }
   begin "$1"
-  shows 'what a message of 67,108,864 bytes brought' endxxx
-  ben_edits 'd 3 1000000'
+  shows 'what a message of 67,108,864 bytes brought' end
   begin_typing=i
   append 'begin '
   end_typing
