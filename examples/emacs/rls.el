@@ -418,7 +418,7 @@ a synchroniser would put older ones in their place."
   "Makes the shared folder, if it isn't there."
   (unless (file-directory-p rls--shared)
     (make-directory rls--shared t)
-    (message "The shared folder was not there and was made%s"
+    (message "rls: made the shared folder%s"
              (if (zerop (logand #o020 (file-modes rls--shared))) "; nobody else on this machine may write into it" ""))))
 
 (defun rls--open-new (folder shared)

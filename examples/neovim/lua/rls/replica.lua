@@ -34,7 +34,7 @@ function Replica.open(options, namespace, folder, shared)
   if vim.fn.isdirectory(shared) == 0 then
     vim.fn.mkdir(shared, 'p', 511) -- what the umask leaves of all permissions
     local alone = vim.fn.getfperm(shared):sub(5, 5) ~= 'w' and '; nobody else on this machine may write into it' or ''
-    say('rls: the shared folder was not there and was made' .. alone)
+    say('rls: made the shared folder' .. alone)
   end
   local done, fault = pcall(function()
     self:start(true)

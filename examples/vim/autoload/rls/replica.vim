@@ -38,7 +38,7 @@ function rls#replica#new(folder, shared) abort
   call s:keep_apart(r.folder, r.shared)
   if !isdirectory(r.shared)
     call mkdir(r.shared, 'p', 0o777)
-    echomsg 'rls: the shared folder was not there and was made' . (getfperm(r.shared)[4] ==# 'w' ? '' : '; nobody else on this machine may write into it')
+    echomsg 'rls: made the shared folder' . (getfperm(r.shared)[4] ==# 'w' ? '' : '; nobody else on this machine may write into it')
   endif
   try
     call rls#session#start(r)
