@@ -17,7 +17,10 @@
 (defvar rls-compare--cut nil "Whether it went on by cheaper means.")
 (defvar rls-compare--late 0 "When it goes on line by line.")
 (defvar rls-compare-was-coarse nil "Whether the last comparison went on by cheaper means.")
-(defconst rls-compare--seconds 15)
+(defcustom rls-compare-seconds 15
+  "Seconds of comparing what one command changed.
+After that it goes on line by line."
+  :type 'number :group 'rls)
 (defvar rls-compare--old)
 (defvar rls-compare--new)
 (defvar rls-compare--at)
@@ -252,7 +255,7 @@ They do so for half of the shorter."
   "The replacements that make NEW of OLD, as lists (AT COUNT TEXT), the last first.
 Their places are those of OLD."
   (let* ((rls-compare--old old) (rls-compare--new new) (rls-compare--at 0) (rls-compare--to 0) (rls-compare--found nil)
-         (rls-compare--spent 0) (rls-compare--cut nil) (rls-compare--late (+ (float-time) rls-compare--seconds)) (case-fold-search nil)
+         (rls-compare--spent 0) (rls-compare--cut nil) (rls-compare--late (+ (float-time) rls-compare-seconds)) (case-fold-search nil)
          (olds (rls-compare--lines old)) (news (rls-compare--lines new))
          (key (lambda (line) (replace-regexp-in-string "[\t-\r ]+" "" line t t)))
          (a 0) (b 0) (i 0) (j 0) (last (length olds)))

@@ -147,6 +147,16 @@
     (rls-test-close (list buffer))
     (should (equal (rls-test-stored folder) "odd"))))
 
+;; Where there is no time left, lines are compared with lines, and not as one piece.
+(ert-deftest rls-no-time ()
+  (let* ((old (mapconcat (lambda (k) (format "one %d two three" k)) (number-sequence 1 400) "\n"))
+         (new (replace-regexp-in-string "\\([0-9]+\\) two" "two \\1" old))
+         (found (let ((rls-compare-seconds -1)) (rls-compare old new))))
+    (should rls-compare-was-coarse)
+    (should (>= (length found) 400))
+    (dolist (x found) (setq old (concat (substring old 0 (car x)) (nth 2 x) (substring old (+ (car x) (nth 1 x))))))
+    (should (equal old new))))
+
 (defun rls-test-mode (path) (logand #o777 (file-modes path)))
 
 ;; What others may have put into the shared folder: links at the names of own messages and at the name that these had before, and at

@@ -125,7 +125,20 @@ local function odd()
   assert(vim.fn.system({ 'sh', '-c', 'cd "$1" && "$RLS" text', 'sh', top .. '/m 0' }):find('odd'))
 end
 
+-- Where there is no time left, lines are compared with lines, and not as one piece.
+local function no_time()
+  local lines = {}
+  for k = 1, 400 do lines[k] = ('one %d two three'):format(k) end
+  local old = table.concat(lines, '\n')
+  local new = old:gsub('(%d+) two', 'two %1')
+  local found, is_coarse = require('rls.compare')(old, new, -1)
+  assert(is_coarse and #found >= 400, #found)
+  for k = #found, 1, -1 do old = old:sub(1, found[k].at) .. found[k].come .. old:sub(found[k].at + #found[k].gone + 1) end
+  assert(old == new)
+end
+
 local done, fault = pcall(function()
+  no_time()
   run()
   hostile()
   rls.program = os.getenv('RLS')

@@ -147,7 +147,7 @@ many_lines() {
 }
 
 # The words of a text, whatever is between them.
-words_of() { tr -s ' \n' '\n\n'; }
+words_of() { tr -s ' \n' '\n'; }
 
 # What one command changes in many lines, while another member has written at five places and not sent it as yet: then each of the five sentences
 # stands between the words between which it was written, and an undo leaves it there. $1 begins the editor; the others are how many lines, and what
@@ -209,12 +209,13 @@ type_badly() {
 # Two members who are apart, each with a shared folder of its own, type a passage each at the end of one text, with corrections and pauses. Then
 # they exchange: each passage stands there whole. $1 begins the editor.
 play_mixed() {
-  local ada='Ada thinks that the first part should say who the report is for.' ben='Ben would rather begin with what went wrong in spring.'
+  local ada='Ada thinks that the first part should say who the report is for.' ben='Ben would rather begin with what went wrong in spring.' other
   begin_with "$1" 'Diary.' 'i 0 Diary. '
   mkdir -p "$room/apart"
   (cd "$room/ben" && "$RLS" take <"$room/shared/7-0-1.rlsm" >/dev/null)
-  : "${1//$room\/ada/$room\/ben}"
-  tmux -L "$socket" new-session -d -s other -x 100 -y 24 "${_//$room\/shared/$room\/apart}"
+  other=${1//$room\/ada/$room\/ben}
+  other=${other//$room\/shared/$room\/apart}
+  tmux -L "$socket" new-session -d -s other -x 100 -y 24 "$other"
   pane=other shows 'the other editor' 'member 1 of 2'
   pane=other shows 'its text' 'Diary.'
   go_to_end

@@ -130,7 +130,23 @@ function s:odd() abort
   call s:want(system('cd ' . shellescape(top . '/m 0') . ' && "$RLS" text') =~# 'odd', 'what is stored in a folder with an odd name')
 endfunction
 
+" Where there is no time left, lines are compared with lines, and not as one piece.
+function s:no_time() abort
+  let g:rls_compare = -1
+  let lines = map(range(400), {_, k -> printf('one %d two three', k)})
+  let old = rls#lines#characters(lines)
+  let new = rls#lines#characters(map(copy(lines), {_, x -> substitute(x, '\(\d\+\) two', 'two \1', '')}))
+  let found = rls#compare#Compared(old, new)
+  let g:rls_compare = 15
+  call s:want(rls#compare#WasCut() && len(found) >= 400, len(found) . ' places')
+  for [at, to, from, end] in reverse(found)
+    let old = (at > 0 ? old[: at - 1] : []) + (end > from ? new[from : end - 1] : []) + old[to :]
+  endfor
+  call s:want(old ==# new, 'what the places make of the text')
+endfunction
+
 try
+  call s:no_time()
   let s:buffers = []
   for member in range(2)
     execute 'RlsOpen' $ROOM . '/' . member $ROOM . '/shared'

@@ -13,6 +13,7 @@ local M = {
   idle = 1000, -- milliseconds without an edit, after which edits are stored and sent
   hold = 3000, -- milliseconds for which what went waits for what is typed in its place (third version)
   most = 3000, -- milliseconds after which edits are stored and sent also while somebody types on
+  compare = 15, -- seconds of comparing what one command changed, after which it goes on line by line
   rename_at = 500, -- runs of identifiers from which it renames (docs/USE.md); 0 for never
   cursors = true, -- whether to tell where the cursor is, and to show where those of others are (second version)
   name = '', -- what others see beside the cursor

@@ -16,6 +16,7 @@ let g:rls_every = get(g:, 'rls_every', 500)     " milliseconds between two looks
 let g:rls_idle = get(g:, 'rls_idle', 1000)      " milliseconds without an edit, after which edits are stored and sent
 let g:rls_most = get(g:, 'rls_most', 3000)       " milliseconds after which edits are stored and sent also while somebody types on
 let g:rls_hold = get(g:, 'rls_hold', 3000)       " milliseconds for which what went waits for what is typed in its place (third version)
+let g:rls_compare = get(g:, 'rls_compare', 15)  " seconds of comparing what one command changed, after which it goes on line by line
 let g:rls_rename_at = get(g:, 'rls_rename_at', 500)   " runs of identifiers from which it renames (docs/USE.md); 0 for never
 let g:rls_cursors = get(g:, 'rls_cursors', 1)   " whether to tell where the cursor is, and to show where those of others are (second version)
 let g:rls_name = get(g:, 'rls_name', '')        " what others see beside the cursor

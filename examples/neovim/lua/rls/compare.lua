@@ -350,7 +350,7 @@ end
 function Comparison:changed_lines(a, old, b, new)
   if #old ~= #new or not is_line_by_line(old, new) then old, new = { table.concat(old) }, { table.concat(new) } end
   for k, line in ipairs(old) do
-    self:words(a, line, b, new[k])
+    if vim.loop.hrtime() > self.late then self.work.is_cut = true else self:words(a, line, b, new[k]) end
     a, b = a + #line, b + #new[k]
   end
 end
@@ -383,9 +383,10 @@ function Comparison:compare()
 end
 
 -- The replacements { at, gone, come } that make one text of another, from the first to the last, whose places are those of the old one; and
--- whether some parts were compared by cheaper means.
-return function(old, new)
-  local comparison = setmetatable({ old = old, new = new, at = 0, to = 0, found = {}, work = { spent = 0, is_cut = false } }, Comparison)
+-- whether some parts were compared by cheaper means. After so many seconds (15, if not said otherwise) it goes on line by line.
+return function(old, new, seconds)
+  local comparison = setmetatable({ old = old, new = new, at = 0, to = 0, found = {}, work = { spent = 0, is_cut = false },
+    late = vim.loop.hrtime() + (seconds or 15) * 1e9 }, Comparison)
   comparison:compare()
   return comparison.found, comparison.work.is_cut
 end

@@ -142,7 +142,7 @@ function Replica:tell(first, last, new)
   local gone, come = table.concat(old, '\n'), table.concat(new, '\n')
   if gone == come then return end
   local at = self.lines:place(first, 0)
-  local places, is_coarse = compared(gone, come)
+  local places, is_coarse = compared(gone, come, self.options.compare)
   local passed = 0 -- bytes of what was there
   for _, place in ipairs(places) do
     if place.at > passed then at = at + count(gone:sub(passed + 1, place.at)) end

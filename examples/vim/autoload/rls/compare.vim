@@ -3,7 +3,6 @@ vim9script
 # places count them from 0.
 const STEPS = 128                       # members that go or come, after which it looks back and goes on from where it is
 const DEPTH = 12                        # anchors within anchors
-const SECONDS = 15                      # after which it goes on line by line
 const SPEED = 200000                    # characters that it compares by words in a second
 
 var begun = reltime()
@@ -15,9 +14,9 @@ var at: number                          # what is before is done, in the old and
 var to: number
 var found: list<list<number>>           # where each replacement begins and ends in the old and in the new text
 
-# Whether there is no time left to compare so many characters.
+# Whether there is no time left to compare so many characters by words: then it goes on line by line.
 def IsLate(characters: number): bool
-  return reltimefloat(reltime(begun)) + characters / SPEED > SECONDS
+  return reltimefloat(reltime(begun)) + characters / SPEED > get(g:, 'rls_compare', 15)
 enddef
 
 def IsSpace(c: number): bool
