@@ -25,7 +25,9 @@ Until then it isn't stored and sent, with the third version of the session."
 (defvar-local rls--cut nil "Whether the last edit took something away and put nothing there.")
 (defvar-local rls--due nil "The timer that sends.")
 (defvar-local rls--boundary nil "Whether the next edit begins a group of undo.")
-(defvar-local rls--typed 0 "How many keys the group has that inserted themselves.")
+(defvar-local rls--typed 0 "How many keys the group has that were typed.")
+(defvar-local rls--typing nil "Whether the last command typed, and if so, whether it `corrects'.")
+(defconst rls--corrections '(delete-backward-char backward-delete-char-untabify backward-delete-char backward-kill-word))
 (defconst rls--most-steps 5000
   "Edits that are undone at once.
 A session forgets a group that has more than 10,000.")
@@ -42,11 +44,14 @@ A session forgets a group that has more than 10,000.")
   (replace-regexp-in-string "\\\\." (lambda (c) (pcase (aref c 1) (?n "\n") (?r "\r") (_ "\\"))) text t t))
 
 (defun rls--before-command ()
-  "Keys that insert themselves are undone together, twenty at most.
-What each other command did is undone by itself."
-  (if (and (eq this-command 'self-insert-command) (eq last-command 'self-insert-command) (< rls--typed 20))
-      (setq rls--typed (1+ rls--typed))
-    (setq rls--boundary t rls--typed 1)))
+  "Keys that insert themselves, and those that correct them, are undone together.
+Twenty keys are, and what is corrected then; what each other command did is
+undone by itself."
+  (let ((types (eq this-command 'self-insert-command)) (corrects (memq this-command rls--corrections)))
+    (if (and rls--typing (or corrects (and types (or (< rls--typed 20) (eq rls--typing 'corrects)))))
+        (setq rls--typed (1+ rls--typed))
+      (setq rls--boundary t rls--typed 1))
+    (setq rls--typing (cond (types 'types) (corrects 'corrects)))))
 
 (defvar-local rls--pending nil
   "What was changed and isn't handed on yet: (FROM TO TEXT).

@@ -105,6 +105,7 @@ the session is TELLING them."
 (defun rls--send-request (request data handler)
   "Sends REQUEST with the bytes DATA; HANDLER gets what `rls--parse' answers."
   (unless (and rls--process (process-live-p rls--process)) (error "rls: the session has ended"))
+  (when (eq (process-status rls--process) 'stop) (error "rls: the program was stopped"))
   (unless rls--waiting (setq rls--heard (float-time)))
   (let ((sent (concat (encode-coding-string request 'utf-8-unix) "\n" data)))
     (setq rls--given (+ rls--given (length sent)))

@@ -336,7 +336,7 @@ Emacs keeps the hook, and calls it only once somebody has looked at it."
     (add-hook 'after-change-functions #'rls--changed nil t)))
 
 (dolist (function '(rls--before-command rls--changing rls--changed rls--flush rls--save rls--close)) (put function 'permanent-local-hook t))
-(dolist (variable '(rls-mode rls-undo-mode rls--pending rls--waits-until rls--cut rls--replaced rls--edition rls--fault rls--waiting-end rls--heard rls--begun rls--opening rls--folder rls--name rls--unsaved rls--since rls--due rls--timer rls--steps rls--boundary
+(dolist (variable '(rls-mode rls-undo-mode rls--pending rls--waits-until rls--cut rls--replaced rls--edition rls--fault rls--waiting-end rls--typing rls--heard rls--begun rls--opening rls--folder rls--name rls--unsaved rls--since rls--due rls--timer rls--steps rls--boundary
                              rls--typed rls--told rls--behind rls--process rls--version rls--telling rls--given rls--waiting rls--failed
                              rls--shared rls--head rls--group rls--members rls--me rls--seen rls--taken rls--sent rls--last rls--marks
                              rls--looked rls--away rls--changes rls--problems rls--shown rls--place rls--places rls--lookup-due

@@ -39,7 +39,9 @@ play_second() {
 
 # A program that hangs is told while somebody types; waiting for it ends at once; and what was typed is stored by another one. $1 begins the editor.
 play_hang() {
-  begin_with "$1" Start 'i 0 Start'
+  # Emacs doesn't talk with a program of its own that is stopped, so it gets one that has another one.
+  printf '#!/bin/sh\n"%s" "$@"\n' "$RLS" >"$room/rls" && chmod +x "$room/rls"
+  begin_with "${1//"$RLS"/$room\/rls}" Start 'i 0 Start'
   kill -STOP "$(session_of "$room/ada")"
   type_at_end ' one'
   shows 'that the program does not answer' 'NOT stored: the program has not answered for '

@@ -5,7 +5,7 @@
 function rls#session#start(r) abort
   let a:r.errors = get(a:r, 'errors', tempname())
   let a:r.job = job_start([g:rls_program, 'session'], {'cwd': a:r.folder, 'mode': 'raw', 'noblock': 1, 'drop': 'never', 'err_io': 'file', 'err_name': a:r.errors})
-  let [a:r.have, a:r.waiting, a:r.telling, a:r.given, a:r.heard, a:r.is_begun] = [0z, [], 0, 0, reltime(), 0]
+  let [a:r.have, a:r.at, a:r.waiting, a:r.telling, a:r.given, a:r.heard, a:r.is_begun] = [0z, 0, [], 0, 0, reltime(), 0]
   let third = []
   call rls#session#put(a:r, 'v 3', 0z, {reply, _, __ -> add(third, reply)})
   let a:r.telling = rls#session#ask(a:r, 'v')[0] ==# 'version 2' && rls#session#ask(a:r, 'c 1')[0] ==# 'telling 1'
@@ -73,7 +73,7 @@ function rls#session#pump(r) abort
     if len(more) == 0
       break
     endif
-    let a:r.have = a:r.have + more
+    call s:add(a:r, more)
   endwhile
   while !empty(a:r.waiting)
     let found = s:parse(a:r, a:r.waiting[0][0])
@@ -88,11 +88,11 @@ endfunction
 
 " The whole reply to a request, which is taken out of what came; an empty list if it hasn't come whole.
 function s:parse(r, kind) abort
-  let feed = index(a:r.have, 10)
+  let feed = index(a:r.have, 10, a:r.at)
   if feed < 0
     return []
   endif
-  let reply = feed == 0 ? '' : list2str(blob2list(a:r.have[0 : feed - 1]))
+  let reply = feed == a:r.at ? '' : list2str(blob2list(a:r.have[a:r.at : feed - 1]))
   let [at, bytes, changes] = [feed + 1, 0z, []]
   if reply =~# '^\(text\|message\|stat\) '
     let size = str2nr(matchstr(reply, '\d\+'))
@@ -117,7 +117,7 @@ function s:parse(r, kind) abort
     let changes = size == 0 ? [] : rls#session#lines_of(a:r.have[from : feed - 1])
     let at = feed + 1
   endif
-  let a:r.have = a:r.have[at :]
+  let a:r.at = at
   return [reply, bytes, changes]
 endfunction
 
@@ -162,7 +162,12 @@ function s:read_more(r) abort
     redraw
     echo
   endif
-  let a:r.have = a:r.have + more
+  call s:add(a:r, more)
+endfunction
+
+" Keeps more of what came, and no more of that what replies were.
+function s:add(r, more) abort
+  let [a:r.have, a:r.at] = [(a:r.at < len(a:r.have) ? a:r.have[a:r.at :] : 0z) + a:more, 0]
 endfunction
 
 " Whether the launcher has said that it waits for another one in the folder.
