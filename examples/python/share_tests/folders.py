@@ -4,7 +4,7 @@ import os
 from rls import Commands, RlsError
 from rls import __main__ as cli
 
-from .people import Person, all_sync, room, started
+from .people import Moment, Person, all_sync, room, started
 
 
 def test_folder_of_notes() -> None:
@@ -84,21 +84,19 @@ def test_hostile_names() -> None:
 
 
 def test_stopped_while_a_text_is_added() -> None:
-    """`rls share` of a note, and a rename that another has made, are stopped at each step: in the end there is one note, under one name."""
-    for how in "all", "half":
-        died, step = True, 0
-        while died:
-            step += int(os.environ.get("EACH", "6"))
-            ada, ben = started(f"adding-{how}-{step}", "first note of all\n")
-            assert ada.rls("share", ada.shared, ".") == 0, ada.said
-            ada.write("the second note is this\n", "b.md")
-            os.rename(os.path.join(ben.folder, "a.md"), os.path.join(ben.folder, "renamed.md"))
-            all_sync([ben])
-            died = ada.dies(step, how, "sync")
-            all_sync([ada, ada, ben, ada, ben])
-            for p in ada, ben:
-                assert sorted(os.listdir(p.folder)) == ["b.md", "renamed.md"], (how, step, p.name, os.listdir(p.folder))
-                assert p.read("b.md") == "the second note is this\n" and p.read("renamed.md") == "first note of all\n"
+    """A new note, and a rename that another has made, and the sync of both is stopped at each step: in the end there is each note once, under one
+    name."""
+    ada, ben = started("adding", "first note of all\n")
+    assert ada.rls("share", ada.shared, ".") == 0, ada.said
+    ada.write("the second note is this\n", "b.md")
+    os.rename(os.path.join(ben.folder, "a.md"), os.path.join(ben.folder, "renamed.md"))
+    all_sync([ben])
+    for step, how, died in Moment(ada, ben).at_each_step(6):
+        died(ada.dies(step, how, "sync"))
+        all_sync([ada, ada, ben, ada, ben])
+        for p in ada, ben:
+            assert sorted(os.listdir(p.folder)) == ["b.md", "renamed.md"], (how, step, p.name, os.listdir(p.folder))
+            assert p.read("b.md") == "the second note is this\n" and p.read("renamed.md") == "first note of all\n"
 
 
 def test_dropped_and_renamed() -> None:

@@ -5,10 +5,10 @@ import re
 import shutil
 from typing import Dict, List, Set
 
-from rls import giver, limits
+from rls import limits
 
 from .carrier import Carrier
-from .people import Person, stat
+from .people import Person, spares, stat
 
 NAMES = "Ada", "Ben", "Cleo", "Dora", "Emil"
 
@@ -84,17 +84,17 @@ class Game:
 
 def play(where: str, seed: int, steps: int = 120) -> str:
     """Plays one. Answers what happened, in words."""
-    before = giver.SPARE_FROM, giver.TEND, limits.RENAME_AT
-    giver.SPARE_FROM, giver.TEND, limits.RENAME_AT = random.Random(seed).choice([(0, 0, 500), (65_536, 0, 500), (0, 0.5, 500), (0, 0, 12), (0, 60, 30)])
-    os.environ["RLS_SPARE_FROM"], os.environ["RLS_TEND"], os.environ["RLS_RENAME_AT"] = str(giver.SPARE_FROM), str(giver.TEND), str(limits.RENAME_AT)
+    at_least, each, rename_at = random.Random(seed).choice([(0, 0, 500), (65_536, 0, 500), (0, 0.5, 500), (0, 0, 12), (0, 60, 30)])
+    before, limits.RENAME_AT = limits.RENAME_AT, rename_at
+    os.environ["RLS_RENAME_AT"] = str(rename_at)
     try:
-        game = Game(where, seed)
-        for now in range(steps):
-            game.step(now)
-        game.end()
+        with spares(at_least, each):
+            game = Game(where, seed)
+            for now in range(steps):
+                game.step(now)
+            game.end()
     finally:
-        giver.SPARE_FROM, giver.TEND, limits.RENAME_AT = before
-        for name in "RLS_SPARE_FROM", "RLS_TEND", "RLS_RENAME_AT":
-            del os.environ[name]
+        limits.RENAME_AT = before
+        del os.environ["RLS_RENAME_AT"]
     shutil.rmtree(where)
     return f"{len(game.written)} words of {len(game.people)} people, {', '.join(f'{what}: {n}' for what, n in sorted(game.did.items()))}"

@@ -11,7 +11,7 @@ from rls.newcomer import ask, take_seat
 
 from .carrier import Carrier
 from .game import play
-from .people import Person, all_sync, joins, room, spares, started, stat
+from .people import Moment, Person, all_sync, joins, room, spares, started, stat
 
 
 def test_hostile_carrier() -> None:
@@ -188,86 +188,74 @@ def test_giver_put_back() -> None:
 def test_giver_dies() -> None:
     """Ada's machine stops at each step of giving numbers to two who ask. Each gets one number, once, and all that was written."""
     with spares():
-        for how in "alone", "all", "half":
-            for step in range(1, 400, int(os.environ.get("EACH", "7"))):
-                where = room(f"dies-{how}-{step}")
-                ada = Person(where, "Ada")
-                ada.write("begin\n" * 3)
-                assert ada.rls("share", ada.shared, "a.md", "--members", "3") == 0
-                others = [Person(where, x, ada.shared) for x in ("Ben", "Cleo")]
-                for p in others:
-                    assert p.rls("join", p.shared, p.folder, "--wait", "0") == 75
-                os.environ["RLS_SPARE_FROM"], os.environ["RLS_TEND"] = "0", "0"
-                died = ada.dies(step, how, "sync")
-                for p in others:                                # they take what is there, whole or not
-                    assert p.rls("join", p.shared, p.folder, "--wait", "0") in (0, 75), p.said
-                all_sync([ada])
-                for p in others:
-                    assert p.rls("join", p.shared, p.folder, "--wait", "0") == 0, p.said
-                assert sorted(p.circle().me for p in others) == [1, 2]
-                write_on(others, random.Random(step), "w", 1)
-                all_sync([ada] + others + [ada] + others)
-                assert len({p.read() for p in [ada] + others}) == 1 and "w0Ben" in ada.read() and "w0Cleo" in ada.read()
-                shutil.rmtree(where)
-                if not died:
-                    break
-            assert not died, "more steps than were played"
-            del os.environ["RLS_SPARE_FROM"], os.environ["RLS_TEND"]
+        where = room("giver-dies")
+        ada = Person(where, "Ada")
+        ada.write("begin\n" * 3)
+        assert ada.rls("share", ada.shared, "a.md", "--members", "3") == 0
+        others = [Person(where, x, ada.shared) for x in ("Ben", "Cleo")]
+        for p in others:
+            assert p.rls("join", p.shared, p.folder, "--wait", "0") == 75
+        for step, how, died in Moment(ada, *others).at_each_step(7):
+            died(ada.dies(step, how, "sync"))
+            for p in others:                                # they take what is there, whole or not
+                assert p.rls("join", p.shared, p.folder, "--wait", "0") in (0, 75), p.said
+            all_sync([ada])
+            for p in others:
+                assert p.rls("join", p.shared, p.folder, "--wait", "0") == 0, p.said
+            assert sorted(p.circle().me for p in others) == [1, 2]
+            write_on(others, random.Random(step), "w", 1)
+            all_sync([ada] + others + [ada] + others)
+            assert len({p.read() for p in [ada] + others}) == 1 and "w0Ben" in ada.read() and "w0Cleo" in ada.read()
 
 
 def test_newcomer_dies() -> None:
     """Ben's `rls join` stops at each of its steps, with replicas that come with the number. He has the number in the end, and all texts."""
     with spares():
-        for how in "alone", "all", "half":
-            died, step = True, 0
-            while died:
-                step += int(os.environ.get("EACH", "7"))
-                where = room(f"joins-{how}-{step}")
-                ada = Person(where, "Ada")
-                ben = Person(where, "Ben", ada.shared)
-                ada.write("begin\n" * 3)
-                ada.write("a second note\n", "b.md")
-                assert ada.rls("share", ada.shared, "a.md", "b.md") == 0
-                assert ben.rls("join", ben.shared, ben.folder, "--wait", "0") == 75
-                all_sync([ada])
-                died = ben.dies(step, how, "join", ben.shared, ben.folder, "--wait", "0")
-                write_on([ada], random.Random(step), "w", 2)
-                assert ben.rls("join", ben.shared, ben.folder, "--wait", "0") == 0 and ben.circle().me == 1, ben.said
-                all_sync([ben, ada, ben])
-                assert ben.read() == ada.read() and ben.read("b.md") == "a second note\n" and len(os.listdir(ben.folder)) == 2, os.listdir(ben.folder)
-                shutil.rmtree(where)
+        where = room("newcomer-dies")
+        ada = Person(where, "Ada")
+        ben = Person(where, "Ben", ada.shared)
+        ada.write("begin\n" * 3)
+        ada.write("a second note\n", "b.md")
+        assert ada.rls("share", ada.shared, "a.md", "b.md") == 0
+        assert ben.rls("join", ben.shared, ben.folder, "--wait", "0") == 75
+        all_sync([ada])
+        for step, how, died in Moment(ada, ben).at_each_step(7):
+            died(ben.dies(step, how, "join", ben.shared, ben.folder, "--wait", "0"))
+            write_on([ada], random.Random(step), "w", 2)
+            assert ben.rls("join", ben.shared, ben.folder, "--wait", "0") == 0 and ben.circle().me == 1, ben.said
+            all_sync([ben, ada, ben])
+            assert ben.read() == ada.read() and ben.read("b.md") == "a second note\n" and len(os.listdir(ben.folder)) == 2, os.listdir(ben.folder)
 
 
 def test_part_goes_on() -> None:
-    """Ada hands the giver's part on to Ben; Ada's machine and Ben's stop at each step. One of them gives at each moment: Cleo and Dora, who ask
+    """Ada hands the giver's part on to Ben; Ada's machine, or Ben's, stops at each step. One of them gives at each moment: Cleo and Dora, who ask
     before and after, get different numbers, and the spare ones have moved with all that they had acknowledged."""
     with spares():
-        os.environ["RLS_SPARE_FROM"], os.environ["RLS_TEND"] = "0", "0"
-        for who in "Ada", "Ben":
-            for how in "all", "half":
-                died, step = True, 0
-                while died:
-                    step += int(os.environ.get("EACH", "9"))
-                    ada, ben = started(f"part-{who}-{how}-{step}", "begin\n", members="5")
-                    cleo, dora = [Person(os.path.dirname(os.path.dirname(ada.home)), x, ada.shared) for x in ("Cleo", "Dora")]
-                    write_on([ada, ben], random.Random(step), "w", 2)
-                    all_sync([ada, ben] * 2)
-                    assert cleo.rls("join", cleo.shared, cleo.folder, "--wait", "0") == 75
-                    died = who == "Ada" and ada.dies(step, how, "give", "1")
-                    if who == "Ben" or died:
-                        assert ada.rls("give", "1") in (0, 71), ada.said
-                    all_sync([ada])
-                    assert "is Cleo's" not in ada.said
-                    died |= who == "Ben" and ben.dies(step, how, "sync")
-                    all_sync([ben, ada, ben])
-                    assert cleo.rls("join", cleo.shared, cleo.folder, "--wait", "0") == 0, cleo.said
-                    joins(dora, ben)
-                    write_on([cleo, dora, ada, ben], random.Random(step), "v", 1)
-                    all_sync([ada, ben, cleo, dora] * 2)
-                    assert len({p.read() for p in (ada, ben, cleo, dora)}) == 1 and {cleo.circle().me, dora.circle().me} == {2, 3}
-                    assert ada.rls("give", "1") == 71 and ben.rls("who") == 0 and "number 1, Ben, gives" in ben.out, ben.out
-                    shutil.rmtree(os.path.dirname(os.path.dirname(ada.home)))
-        del os.environ["RLS_SPARE_FROM"], os.environ["RLS_TEND"]
+        ada, ben = started("part", "begin\n", members="5")
+        cleo, dora = [Person(os.path.dirname(os.path.dirname(ada.home)), x, ada.shared) for x in ("Cleo", "Dora")]
+        write_on([ada, ben], random.Random(1), "w", 2)
+        all_sync([ada, ben] * 2)
+        assert cleo.rls("join", cleo.shared, cleo.folder, "--wait", "0") == 75
+        moment = Moment(ada, ben, cleo, dora)
+        for stopped in ada, ben:
+            for step, how, died in moment.at_each_step(9):
+                if stopped is ada and ada.dies(step, how, "give", "1"):
+                    died(True)
+                    assert ada.rls("give", "1") in (0, 71), ada.said
+                elif stopped is ben:
+                    assert ada.rls("give", "1") == 0, ada.said
+                    died(ben.dies(step, how, "sync"))
+                else:
+                    died(False)
+                all_sync([ada])
+                assert "is Cleo's" not in ada.said
+                all_sync([ben, ada, ben])
+                assert cleo.rls("join", cleo.shared, cleo.folder, "--wait", "0") == 0, cleo.said
+                joins(dora, ben)
+                write_on([cleo, dora, ada, ben], random.Random(step), "v", 1)
+                all_sync([ada, ben, cleo, dora] * 2)
+                assert len({p.read() for p in (ada, ben, cleo, dora)}) == 1 and {cleo.circle().me, dora.circle().me} == {2, 3}
+                assert ada.rls("give", "1") == 71 and ben.rls("who") == 0 and "number 1, Ben, gives" in ben.out, ben.out
 
 
 def test_old_giver_put_back() -> None:

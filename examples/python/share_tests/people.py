@@ -4,15 +4,17 @@ import io
 import os
 import random
 import re
+import shutil
 import subprocess
 import sys
 import tempfile
-from typing import Iterable, Iterator, List, Optional, Tuple
+from typing import Callable, Iterable, Iterator, Optional, Tuple
 
 from rls import Commands
 from rls import __main__ as cli
 from rls import giver
 from rls.circle import Circle
+from rls.home import Home
 from rls.reports import Stat
 
 from . import TOP
@@ -95,15 +97,44 @@ def joins(who: Person, giver_is: Person) -> None:
     assert who.rls("join", who.shared, who.folder, "--wait", "0") == 0, who.said
 
 
+class Moment:
+    """All machines as they are now, to which one can go back as often as one likes. That they are copies then, nobody sees."""
+
+    def __init__(self, *people: Person) -> None:
+        self.people, self.where = people, os.path.dirname(os.path.dirname(people[0].home))
+        os.chdir("/")
+        shutil.copytree(self.where, self.where + ".kept")
+
+    def back(self) -> None:
+        os.chdir("/")
+        shutil.rmtree(self.where)
+        shutil.copytree(self.where + ".kept", self.where)
+        for p in self.people:
+            for ident in os.listdir(p.home):
+                os.environ["RLS_HOME"] = p.home
+                Home(ident).tell_place()
+
+    def at_each_step(self, each: int) -> Iterator[Tuple[int, str, Callable[[bool], None]]]:
+        """Goes back, and names a step and a way to stop there (dying.py), until the caller has said for each way that nothing was stopped."""
+        for how in "all", "half", "alone":
+            died, step = [True], 0
+            while died[-1]:
+                step += int(os.environ.get("EACH", each))
+                self.back()
+                yield step, how, died.append
+
+
 @contextlib.contextmanager
 def spares(at_least: int = 0, each: float = 0) -> Iterator[None]:
     """The giver holds replicas of spare numbers from so many bytes on, and looks after them each so many seconds."""
     before = giver.SPARE_FROM, giver.TEND
     giver.SPARE_FROM, giver.TEND = at_least, each
+    os.environ["RLS_SPARE_FROM"], os.environ["RLS_TEND"] = str(at_least), str(each)
     try:
         yield
     finally:
         giver.SPARE_FROM, giver.TEND = before
+        del os.environ["RLS_SPARE_FROM"], os.environ["RLS_TEND"]
 
 
 def all_sync(people: Iterable[Person]) -> None:

@@ -16,7 +16,7 @@ from rls.edits import applied
 from rls.merge import carried
 
 from . import TOP
-from .people import Person, all_sync, room, started, stat
+from .people import Moment, Person, all_sync, started
 
 
 def test_words() -> None:
@@ -190,26 +190,21 @@ def test_carried() -> None:
 
 
 def test_dies_at_each_step() -> None:
-    """Ben's `rls sync` stops at each of its steps: with something of his to go in, with something of Ada's to come, and with a name to follow. No
-    word is lost and none comes twice, and what he saves right after that goes in, too."""
-    for how in "all", "half", "alone":
-        died, step = True, 0
-        while died:
-            step += int(os.environ.get("EACH", "5"))
-            ada, ben = started(f"each-{how}-{step}", "one two three four\n")
-            ada.write("one ADA two three four\n")
-            all_sync([ada])
-            ben.write("one two three BEN four\n")
-            died = ben.dies(step, how, "sync")
-            assert died or ben.said == "", ben.said
-            there = ben.read() if os.path.exists(os.path.join(ben.folder, "a.md")) else None
-            if there is not None:
-                ben.write(there.replace("four", "four LATER"))
-            all_sync([ben, ada, ben, ada])
-            wanted = "one ADA two three BEN four LATER\n" if there is not None else "one ADA two three BEN four\n"
-            assert ada.read() == ben.read() == wanted, (how, step, there, ben.read())
-            assert os.listdir(ben.folder) == ["a.md"], os.listdir(ben.folder)
-            shutil.rmtree(os.path.dirname(os.path.dirname(ada.home)))
+    """Ben's `rls sync` stops at each of its steps, with something of his to go in and something of Ada's to come. No word is lost and none comes
+    twice, and what he saves right after that goes in, too."""
+    ada, ben = started("each", "one two three four\n")
+    ada.write("one ADA two three four\n")
+    all_sync([ada])
+    ben.write("one two three BEN four\n")
+    for step, how, died in Moment(ada, ben).at_each_step(5):
+        died(ben.dies(step, how, "sync"))
+        there = ben.read() if os.path.exists(os.path.join(ben.folder, "a.md")) else None
+        if there is not None:
+            ben.write(there.replace("four", "four LATER"))
+        all_sync([ben, ada, ben, ada])
+        wanted = "one ADA two three BEN four LATER\n" if there is not None else "one ADA two three BEN four\n"
+        assert ada.read() == ben.read() == wanted, (how, step, there, ben.read())
+        assert os.listdir(ben.folder) == ["a.md"], os.listdir(ben.folder)
 
 
 def test_same_file_again() -> None:
