@@ -1,3 +1,4 @@
+#!/usr/bin/env python3
 """Tests `rls share`, `join` and `sync`, over carriers as bad as they come. RLS names the program. `test_share.py NAME ..` runs these alone,
 `test_share.py --short` those that the gate runs, which take less than a minute."""
 import os
@@ -26,7 +27,7 @@ def main(names: "list[str]") -> int:
                 print(f"FAILED  {name[5:]}", flush=True)
                 failed += 1
     os.chdir("/")
-    shutil.rmtree(people.ROOM, ignore_errors=True)
+    shutil.rmtree(people.base(), ignore_errors=True)
     return int(failed > 0)
 
 

@@ -60,11 +60,12 @@ def circle_of(path: Optional[str]) -> Tuple[Circle, Optional[str]]:
 
 def refuse_within(path: str, shared: str) -> None:
     if (os.path.realpath(path) + "/").startswith(os.path.realpath(shared) + "/"):
-        raise Trouble(f"{path} is in the shared folder, where each machine would write over the others' file. Keep the texts elsewhere, for example in ~/notes.")
+        raise Trouble(f"{path} is in the shared folder, where each machine would write over the others' file. Keep it elsewhere: the texts, for example, in ~/notes.")
 
 
 def share(words: argparse.Namespace) -> int:
     shared = os.path.abspath(os.path.expanduser(words.shared))
+    refuse_within(homes(), shared)
     for path in words.files:
         refuse_within(path, shared)
         if not os.path.exists(path):
@@ -87,6 +88,7 @@ def share(words: argparse.Namespace) -> int:
 
 def join(words: argparse.Namespace) -> int:
     circle = Circle.of(words.shared)
+    refuse_within(homes(), circle.shared)
     if words.folder:
         refuse_within(words.folder, circle.shared)
     circle.home.make()
@@ -154,7 +156,6 @@ def sync(words: argparse.Namespace) -> int:
 
 
 def one_round(circle: Circle, only: Optional[str], words: argparse.Namespace) -> int:
-    circle.home.make()
     with circle.hold(words.wait):
         if words.moved:
             circle.home.tell_place()
@@ -262,4 +263,6 @@ def main(args: List[str]) -> int:
 
 
 if __name__ == "__main__":
+    for stream in sys.stdout, sys.stderr:
+        stream.reconfigure(errors="backslashreplace")       # names of files may be no text
     sys.exit(main(sys.argv[1:]))

@@ -121,6 +121,8 @@ class Circle:
     @contextmanager
     def hold(self, wait: float = 0) -> Iterator[None]:
         """One command at a time works on it on this machine. What it knows is read anew then."""
+        if not os.path.isdir(self.home.folder):
+            raise Trouble(f"this machine has no part in the circle of {self.shared}: rls join {self.shared}", 2)
         with self.home.hold(wait):
             self.read_again()
             yield
@@ -176,9 +178,9 @@ class Circle:
     # -- the looks before anything is taken or sent
     def look(self) -> None:
         """Trouble 71 if there is, or was, a second replica of this number: the folder was copied, or its number was used by other files."""
+        there = self.notice(f"{self.me}.here")
         assert self.seat
         self.home.look_at_place(self.shared)
-        there = self.notice(f"{self.me}.here")
         if there and (there.get("token") != self.seat.token or not self.home.is_own_mark(there.get("mark", ""))):
             when = time.strftime("%d %b %H:%M", time.localtime(number(there.get("seen"))))
             raise Trouble(f"number {self.me} was used {when} by files that aren't these: by a copy of {self.home.folder}, or these were put back from one. With two, the texts would differ for ever, so nothing is taken or sent here any more. If the other one goes on, `rls join --anew {self.shared}` gets a new number for this machine, and puts in again what its files have and nobody is known to have got.")

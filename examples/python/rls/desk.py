@@ -14,6 +14,7 @@ from .kept_for import tell_kept
 from .note import Note, look_of_replica
 
 KINDS = ".md", ".txt", ".text", ".markdown", ".rst", ".org", ".tex"
+UNREAD = 8                      # the status if a file can't be read or written
 MOST_NAMES = 5                  # of files that are shared at once, in one line
 RENAMED = 0.7                   # the part of the words that a file under another name has to have of the one that is missing
 
@@ -204,6 +205,12 @@ class Desk:
             except Busy:
                 say(f"{name}: another program is writing {note.path}; it goes in at the next round.")
                 return HELD
+            except Trouble as e:
+                say(f"{name}: {e}")
+                return e.status
+            except OSError as e:
+                say(f"{name}: {e.filename if isinstance(e.filename, str) else note.path}: {e.strerror}")
+                return UNREAD
 
     def _told_held(self, note: Note) -> int:
         """An editor that has the text open exchanges by itself. If its file was changed, too, somebody has to know."""

@@ -196,3 +196,14 @@ def test_no_circle_file() -> None:
     with open(path, "rb") as f:
         assert f.read() == told
     assert ada.read() == ben.read()
+
+
+def test_no_part() -> None:
+    """Whoever has no part in a circle is told, whatever he asks; and the folder of the numbers is never in the shared one."""
+    ada, ben = started("no-part")
+    cleo = Person(os.path.dirname(os.path.dirname(ada.home)), "Cleo", ada.shared)
+    for words in ("sync", ada.shared), ("who", ada.shared), ("where", ada.shared), ("drop", ada.shared), ("give", "1", ada.shared), ("share", ada.shared):
+        assert cleo.rls(*words) in (1, 2) and cleo.said, (words, cleo.said)
+    cleo.home = os.path.join(ada.shared, "home")
+    assert cleo.rls("join", ada.shared) == 71 and "is in the shared folder" in cleo.said, cleo.said
+    assert cleo.rls("share", ada.shared) == 71, cleo.said

@@ -1,9 +1,13 @@
 """A folder of notes, and names that anybody may have written."""
 import os
+import resource
+import subprocess
+import sys
 
 from rls import Commands, RlsError
 from rls import __main__ as cli
 
+from . import TOP
 from .people import Moment, Person, all_sync, room, started
 
 
@@ -164,3 +168,26 @@ def test_another_program() -> None:
         Commands(os.path.join(os.path.dirname(path), "replica")).text()
     except RlsError as e:
         assert "another program" not in e.line, e.line
+
+
+def test_thousand_notes() -> None:
+    """An idle round over 1,000 notes starts no program, and takes less than half a second of a processor, Python's own start with it."""
+    ada = Person(room("thousand"), "Ada")
+    for k in range(1000):
+        ada.write(f"note {k} has some words\n", f"n{k}.md")
+    assert ada.rls("share", ada.shared, ".") == 0 and "and 995 others are shared" in ada.said, ada.said
+    all_sync([ada])
+    real, subprocess.Popen = subprocess.Popen, None         # type: ignore[misc, assignment]
+    try:
+        all_sync([ada])
+    finally:
+        subprocess.Popen = real                             # type: ignore[misc]
+    env, before = {**os.environ, "RLS_HOME": ada.home, "PYTHONPATH": TOP}, resource.getrusage(resource.RUSAGE_CHILDREN)
+    env.pop("PYTHONDONTWRITEBYTECODE", None)
+    env["PYTHONPYCACHEPREFIX"] = os.path.join(ada.home, "cache")
+    for _ in range(5):
+        subprocess.run([sys.executable, "-S", "-m", "rls", "sync"], env=env, cwd=ada.folder, check=True)
+    after = resource.getrusage(resource.RUSAGE_CHILDREN)
+    took = (after.ru_utime + after.ru_stime - before.ru_utime - before.ru_stime) / 5
+    assert took < 0.5, took
+    print(f"  {took:.2f} s")

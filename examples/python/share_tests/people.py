@@ -8,6 +8,7 @@ import shutil
 import subprocess
 import sys
 import tempfile
+from functools import lru_cache
 from typing import Callable, Iterable, Iterator, Optional, Tuple
 
 from rls import Commands
@@ -19,8 +20,11 @@ from rls.reports import Stat
 
 from . import TOP
 
-# Everything is synced all the time, so a disk would make this slow.
-ROOM = tempfile.mkdtemp(dir=None if "TMPDIR" in os.environ or not os.access("/dev/shm", os.W_OK) else "/dev/shm")
+
+@lru_cache(maxsize=None)
+def base() -> str:
+    """The folder of all tests. Everything is synced all the time, so a disk would make this slow."""
+    return tempfile.mkdtemp(dir=None if "TMPDIR" in os.environ or not os.access("/dev/shm", os.W_OK) else "/dev/shm")
 
 
 class Person:
@@ -73,7 +77,7 @@ class Person:
 
 
 def room(name: str) -> str:
-    path = os.path.join(ROOM, name)
+    path = os.path.join(base(), name)
     os.makedirs(path)
     return path
 

@@ -294,3 +294,65 @@ def test_stopped_before_an_editor() -> None:
 def note_of(p: Person) -> note.Note:
     circle = p.circle()
     return note.Note(circle, circle.texts()[0], None, print)
+
+
+def test_long_writer() -> None:
+    """A program opens the file just before it is replaced, and writes for longer than anybody waits. What it writes goes in once it has closed it."""
+    ada, ben = started("long-writer", "alpha beta gamma\n")
+    ben.write("alpha BEN beta gamma\n")
+    all_sync([ben])
+    real, done, before = note.put, [], files.MOST_OPEN
+    files.MOST_OPEN = 0.3
+
+    def put(path: str, data: bytes, expected: Optional[bytes]) -> files.Put:
+        if not done:
+            done.append(open(path, "r+", encoding="utf-8"))
+        return real(path, data, expected)
+    note.put = put
+    try:
+        assert ada.rls("sync") == 73 and "another program is writing" in ada.said, ada.said
+        assert ada.rls("sync") == 73, ada.said
+        done[0].write("alpha beta gamma LATER\n")
+        done[0].close()
+        all_sync([ada, ben, ada])
+    finally:
+        note.put, files.MOST_OPEN = real, before
+    assert ada.read() == ben.read() == "alpha BEN beta gamma LATER\n", ada.read()
+    assert os.listdir(ada.folder) == ["a.md"]
+
+
+def test_one_bad_file() -> None:
+    """One file is no text, and one is a folder: they are told, and all others are exchanged."""
+    ada, ben = started("bad-file")
+    ben.write("one\n", "b.md"), ben.write("two\n", "c.md")
+    assert ben.rls("share", ben.shared, "b.md", "c.md") == 0
+    with open(os.path.join(ben.folder, "a.md"), "wb") as f:
+        f.write(b"\xff\xfe no text")
+    os.unlink(os.path.join(ben.folder, "b.md"))
+    os.mkdir(os.path.join(ben.folder, "b.md"))
+    ben.write("two and three\n", "c.md")
+    status = ben.rls("sync")
+    assert status in (4, 8) and "a.md: " in ben.said and "b.md: " in ben.said and "UTF-8" in ben.said, (status, ben.said)
+    assert ada.rls("share", ada.shared, ".") == 0 and ben.rls("sync") in (4, 8) and ada.rls("sync") == 0, ada.said
+    assert ada.read("c.md") == "two and three\n", (ada.read("c.md"), ben.said, os.listdir(ada.folder))
+
+
+def test_watch() -> None:
+    """`rls sync --watch` goes on until it is ended, over a folder that is away for a moment."""
+    ada, ben = started("watch")
+    env = {**os.environ, "RLS_HOME": ben.home, "PYTHONPATH": TOP}
+    p = subprocess.Popen([sys.executable, "-m", "rls", "sync", "--watch", "--every", "0.05"], env=env, cwd=ben.folder, stderr=subprocess.DEVNULL)
+    try:
+        for k in range(3):
+            ada.write(f"Bread and {k}\n")
+            all_sync([ada])
+            os.rename(ada.shared, ada.shared + ".away")
+            time.sleep(0.2)
+            os.rename(ada.shared + ".away", ada.shared)
+            end = time.monotonic() + 60
+            while ben.read() != ada.read() and time.monotonic() < end:
+                time.sleep(0.05)
+            assert ben.read() == ada.read() and p.poll() is None, k
+    finally:
+        p.kill()
+        p.wait()
