@@ -129,8 +129,9 @@ def begin_anew(circle: Circle, seat: Seat) -> None:
     for x in sorted(os.listdir(os.path.join(aside, "texts"))):
         if x.endswith(".json"):
             with open(os.path.join(aside, "texts", x), encoding="utf-8") as f:
-                known = json.load(f)["known"]
-            circle.home.keep(os.path.join("texts", x), {"versions": [] if known is None else [known]})
+                state = json.load(f)
+            known = [state["known"]] if state["known"] is not None else [text for _, text in state["sent"][:1]]
+            circle.home.keep(os.path.join("texts", x), {"versions": known})
     if os.path.exists(os.path.join(aside, "bound")):
         shutil.copy(os.path.join(aside, "bound"), circle.home.path("bound"))
     ask(circle, seat.name)

@@ -76,6 +76,7 @@ class Circle:
         kept = self.home.kept("seat")
         self.seat: Optional[Seat] = Seat(**kept) if kept else None
         self.entries: Optional[Dict[str, os.DirEntry[str]]] = None
+        self.own: Optional[List[str]] = None
         self.told: Optional[Dict[str, Told]] = None
         self.has_marked = False
         self.ends: Dict[int, List[str]] = {}
@@ -147,8 +148,10 @@ class Circle:
 
     def own_names(self, pattern: str) -> List["re.Match[str]"]:
         """The names in the shared folder that are `CIRCLE-` and then match."""
+        if self.own is None:
+            self.own = sorted(x for x in self.listing() if x.startswith(self.id))
         whole = re.compile(f"{self.id}-{pattern}")
-        return [x for x in map(whole.fullmatch, sorted(self.listing())) if x]
+        return [x for x in map(whole.fullmatch, self.own) if x]
 
     # -- who is who
     @property
@@ -208,7 +211,7 @@ class Circle:
         kept: Dict[str, Any] = self.home.kept("texts-told") or {"texts": {}, "files": {}}
         self.told = {group: Told(*row) for group, row in kept["texts"].items()}
         files: Dict[str, List[int]] = {}
-        for match in self.own_names(r"([0-9]{1,20})-([0-9]{1,2})\.text"):
+        for match in self.own_names(r"(0|[1-9][0-9]{0,18})-([0-9]{1,2})\.text"):
             sign = look_of(self.listing()[match[0]])
             notice = None if kept["files"].get(match[0]) == sign else read_notice(self.path(match[0]))
             if notice and "name" in notice:
@@ -296,6 +299,8 @@ class Quiet(Mailbox):
     """A mailbox of a program that runs for a moment: it writes no message that is there already, and a mark before the first one."""
 
     def __init__(self, circle: Circle, group: int, me: int) -> None:
+        if not os.path.isdir(circle.shared):
+            raise Trouble(f"{circle.shared} went away.", 8)
         super().__init__(circle.shared, Head(group, circle.members, me, ()))
         self.circle = circle
 

@@ -80,7 +80,7 @@ class Giver:
         for k, to in self.given.items():
             if int(k) not in self.handed:
                 self._hand_over(int(k), to)
-        if self.is_giver and time.time() - float(self.home.kept("tended") or 0) >= TEND:
+        if self.is_giver and not 0 <= time.time() - float(self.home.kept("tended") or 0) < TEND:
             self.tend()
             self.home.keep("tended", time.time())       # what waits for the spare numbers waits for the giver as well
         return self.said

@@ -31,8 +31,10 @@ class Home:
 
     def make(self) -> None:
         """Makes the folder, which from now on knows where it is."""
-        if not os.path.isdir(self.folder):
-            os.makedirs(self.path("texts"), mode=0o700, exist_ok=True)
+        os.makedirs(homes(), exist_ok=True)
+        if not os.path.isdir(self.path("texts")):
+            for folder in self.folder, self.path("texts"):
+                os.makedirs(folder, mode=0o700, exist_ok=True)
             sync_folder(homes())
 
     # -- what is kept
@@ -43,6 +45,8 @@ class Home:
                 return json.load(f)
         except FileNotFoundError:
             return None
+        except ValueError:
+            raise Trouble(f"{self.path(name)} is damaged: nothing was taken or sent. `rls join --anew SHARED` gets a new number for this machine.") from None
 
     def keep(self, name: str, value: object) -> None:
         """Keeps it: it is on the disk when this returns, and a stop leaves the old one or this one."""

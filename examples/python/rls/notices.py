@@ -8,7 +8,7 @@ from .folders import regular, replace
 from .mailbox import shown
 
 MOST_NOTICE = 65_536            # bytes
-MOST_FILE_NAME = 120            # characters
+MOST_FILE_NAME = 200            # bytes in UTF-8
 
 Notice = Dict[str, str]
 
@@ -51,8 +51,10 @@ def name_of(notice: Optional[Notice]) -> str:
 
 def file_name(name: str) -> str:
     """The name of a text as it may be a file's here: no path, no hidden file, nothing that a terminal would take for more than a letter."""
-    plain = "".join(x for x in os.path.basename(name) if x.isprintable() and x not in "/\\")
-    return plain[:MOST_FILE_NAME].strip().lstrip(".").strip() or "text"
+    plain = "".join(x for x in os.path.basename(name) if x.isprintable() and x not in "/\\").strip().lstrip(".").strip()
+    stem, end = os.path.splitext(plain)
+    end = end if len(end.encode()) < MOST_FILE_NAME else ""
+    return (stem.encode()[:MOST_FILE_NAME - len(end.encode())].decode("utf-8", "ignore").strip() + end).lstrip(".") or "text"
 
 
 def sync_folder(path: str) -> None:

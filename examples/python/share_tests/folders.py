@@ -66,7 +66,10 @@ def test_hostile_names() -> None:
     """Names of texts and of people are whatever somebody has written."""
     ada, ben = started("names")
     circle = ben.circle()
-    for k, name in enumerate(("../../evil.md", "/etc/passwd", ".bashrc", "Makefile", "a\x1b[31mb.md", "", "x" * 500 + ".md")):
+    for name in "99999999999999999999", "007", "18446744073709551616":      # no texts
+        with open(os.path.join(ada.shared, f"{circle.id}-{name}-1.text"), "w", encoding="utf-8") as f:
+            f.write("stamp 1\nname n.md\nbegun 1\nend\n")
+    for k, name in enumerate(("../../evil.md", "/etc/passwd", ".bashrc", "Makefile", "a\x1b[31mb.md", "", "x" * 500 + ".md", "\U0001f600" * 200 + ".md", "x." + "y" * 500)):
         group = 77 + k
         Commands.new(circle.replica(group), group, circle.me, circle.members)
         Commands(circle.replica(group)).edit(["i 0 hostile"])
@@ -83,7 +86,7 @@ def test_hostile_names() -> None:
         assert p.rls("sync") == 0, p.said
     there = os.listdir(cleo.folder)
     assert cleo.read("Makefile") == "my own" and cleo.read("Makefile-2") == "hostile", there
-    assert not any(x.startswith(".") or "\x1b" in x or len(x) > 140 for x in there), there
+    assert not any(x.startswith(".") or "\x1b" in x or len(x.encode()) > 220 for x in there), there
     assert sorted(os.listdir(os.path.dirname(cleo.folder))) == ["home", "notes"], os.listdir(os.path.dirname(cleo.folder))
 
 

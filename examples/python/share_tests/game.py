@@ -15,13 +15,14 @@ NAMES = "Ada", "Ben", "Cleo", "Dora", "Emil"
 
 class Game:
     """Ada begins; the others ask when they see the circle, some late. All write words into a.md at random places, by saves, and sync; now and then
-    a sync is stopped. At last the carrier brings all that there is. Then all have different numbers and the same text, each word once."""
+    a sync is stopped, or the giver's part is handed on. At last the carrier brings all that there is. Then all have different numbers and the same text, each word once."""
 
     def __init__(self, where: str, seed: int) -> None:
         self.r = random.Random(seed)
         self.people = [Person(where, x) for x in NAMES[:self.r.randint(3, 5)]]
         self.carrier = Carrier(self.people, self.r, self.r.choice([0.2, 0.5, 0.7]))
         self.dies = self.r.choice([0, 0, 0.04])
+        self.gives = self.r.choice([0, 0.1])
         self.joined: Set[str] = {"Ada"}
         self.late = {p.name: self.r.choice([0, 0, 30, 60]) for p in self.people}
         self.written: List[str] = []
@@ -57,7 +58,12 @@ class Game:
     def step(self, now: int) -> None:
         self.carrier.step()
         p = self.r.choice(self.people)
-        if p.name in self.joined:
+        if p.name in self.joined and self.r.random() < self.gives:
+            status = p.rls("give", str(self.r.randrange(6)), p.shared)
+            assert status in (0, 1, 71), (status, p.said)
+            if status == 0:
+                self.count("the giver's part handed on")
+        elif p.name in self.joined:
             self.writes(p)
         else:
             self.tries_to_join(p, now)

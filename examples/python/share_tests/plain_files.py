@@ -8,7 +8,7 @@ import subprocess
 import sys
 import textwrap
 import time
-from typing import Optional
+from typing import Callable, Optional
 
 from rls import Mailbox, Session
 from rls import files, kept_for, note
@@ -190,20 +190,20 @@ def test_carried() -> None:
 
 
 def test_dies_at_each_step() -> None:
-    """Ben's `rls sync` stops at each of its steps, with something of his to go in and something of Ada's to come. No word is lost and none comes
-    twice, and what he saves right after that goes in, too."""
+    """Ben's `rls sync` stops at each of its steps, with something of his to go in and something of Ada's to come, at one place. No word is lost
+    and none comes twice, and what he saves right after that goes in, too."""
     ada, ben = started("each", "one two three four\n")
-    ada.write("one ADA two three four\n")
+    ada.write("one two ADA three four\n")
     all_sync([ada])
-    ben.write("one two three BEN four\n")
+    ben.write("one two BEN three four\n")
     for step, how, died in Moment(ada, ben).at_each_step(5):
         died(ben.dies(step, how, "sync"))
         there = ben.read() if os.path.exists(os.path.join(ben.folder, "a.md")) else None
         if there is not None:
             ben.write(there.replace("four", "four LATER"))
         all_sync([ben, ada, ben, ada])
-        wanted = "one ADA two three BEN four LATER\n" if there is not None else "one ADA two three BEN four\n"
-        assert ada.read() == ben.read() == wanted, (how, step, there, ben.read())
+        wanted = ["ADA", "BEN"] + ["LATER"] * (there is not None) + ["four", "one", "three", "two"]
+        assert ada.read() == ben.read() and sorted(ada.read().split()) == wanted, (how, step, there, ben.read())
         assert os.listdir(ben.folder) == ["a.md"], os.listdir(ben.folder)
 
 
@@ -219,33 +219,51 @@ def test_same_file_again() -> None:
     assert ada.read() == ""
 
 
-def test_message_in_between() -> None:
-    """A message comes while a round goes on that has read the folder already, and a save right after the file was written: the next round sees
-    them, though nothing changes any more."""
-    ada, ben = started("message-between")
-    all_sync([ada, ben] * 3)
+def at_the_end_of_a_round(ben: Person, call: Callable[[], None]) -> None:
+    """Something happens when a round has read and written all, and before it writes down what it has looked at."""
     real, done = note.Watched.close, []
 
     def close(self: note.Watched) -> None:
         if not done:
             done.append(1)
             home = os.environ["RLS_HOME"]
-            ada.write("Bread and green tea\n")
-            assert ada.rls("sync") == 0, ada.said
+            call()
             os.environ["RLS_HOME"] = home
-            os.chdir(ben.folder)
-            ben.write(ben.read() + "last\n")
         real(self)
-    ben.add("word", random.Random(1))
     note.Watched.close = close          # type: ignore[method-assign]
     try:
         all_sync([ben])
     finally:
         note.Watched.close = real       # type: ignore[method-assign]
-    all_sync([ben])
-    assert "green" in ben.read() and "last" in ben.read(), ben.read()
-    all_sync([ben, ada])
-    assert ada.read() == ben.read() and "word" in ada.read()
+    assert done
+
+
+def test_message_in_between() -> None:
+    """A message comes at the end of a round that has read the folder already: the next round sees it, though nothing changes any more."""
+    ada, ben = started("message-between")
+    all_sync([ada, ben] * 3)
+    ada.write("Bread and green tea\n")
+    ben.add("word", random.Random(1))
+    at_the_end_of_a_round(ben, lambda: all_sync([ada]))
+    assert "green" not in ben.read()
+    all_sync([ben, ben])
+    assert "green" in ben.read(), ben.read()
+
+
+def test_save_at_the_end() -> None:
+    """A save comes right after the file was looked at or written: the next round sees it, though nothing changes any more."""
+    ada, ben = started("save-at-the-end")
+    all_sync([ada, ben] * 3)
+    message = os.path.join(ada.shared, f"{ada.circle().texts()[0].group}-0-1.rlsm")
+    for text in None, "Bread and green tea\n":     # with nothing to be written into the file, and with something
+        if text:
+            ada.write(text)
+            all_sync([ada])
+        else:
+            os.utime(message)
+        at_the_end_of_a_round(ben, lambda: ben.add(f"word{text is None}", random.Random(1)))
+        all_sync([ben, ada, ben])
+        assert f"word{text is None}" in ada.read(), (text, ada.read())
 
 
 def test_deleted_in_between() -> None:
@@ -289,6 +307,22 @@ def test_stopped_before_an_editor() -> None:
             session.insert(0, f"editor{k} ")
     all_sync([ben, ada, ben])
     assert ada.read() == ben.read() and ada.read().count("BEN") == 1 and ada.read().count("editor") == 5, ada.read()
+
+
+def test_stopped_before_a_client() -> None:
+    """The same with a client that opens the replica by itself and makes fewer operations than were to go in."""
+    ada, ben = started("before-client", "one two three four five\n")
+    ben.write("one BEN two three BEN four five\n")
+    step = 1
+    while ben.dies(step, "all", "sync"):
+        with open(note_of(ben).kept, encoding="utf-8") as f:
+            if '"pending": [' in f.read():
+                break
+        step += 1
+    with Session(ben.circle().replica(ben.circle().texts()[0].group)) as session:
+        session.insert(0, "client ")
+    all_sync([ben, ada, ben])
+    assert ada.read() == ben.read() == "client one BEN two three BEN four five\n", ada.read()
 
 
 def note_of(p: Person) -> note.Note:
@@ -348,6 +382,7 @@ def test_watch() -> None:
             all_sync([ada])
             os.rename(ada.shared, ada.shared + ".away")
             time.sleep(0.2)
+            shutil.rmtree(ada.shared, ignore_errors=True)       # made anew, if it went in the middle of a round
             os.rename(ada.shared + ".away", ada.shared)
             end = time.monotonic() + 60
             while ben.read() != ada.read() and time.monotonic() < end:
