@@ -10,7 +10,7 @@
 //   CALLS_FULL=N                   the disk takes N more bytes
 //   CALLS_COUNTS=FILE              a file of 64 numbers of 8 bytes, which is mapped: the calls of each kind, in the order of `names`, and
 //                                  in the last one 1 plus what the first call that failed was about (below, `subject`)
-//   CALLS_RECORD=FILE              what changes files is appended to this file, a line each
+//   CALLS_RECORD=FILE              what changes files is appended to this file, a line each, and so is what is written to standard output
 #define _GNU_SOURCE
 #include <errno.h>
 #include <fcntl.h>
@@ -199,8 +199,9 @@ ssize_t write(int file, const void *from, size_t count) {
   long at = syscall(SYS_lseek, file, 0, SEEK_CUR);
   if (at < 0) errno = 0;
   long answer = syscall(SYS_write, file, from, count);
-  if (answer > 0 && file > 2 && record >= 0) {
-    note("write %d %ld ", file, at);
+  if (answer > 0 && (file == 1 || file > 2) && record >= 0) {
+    if (file == 1) note("reply ");
+    else note("write %d %ld ", file, at);
     note_bytes(from, answer);
   }
   return after(how, answer);
