@@ -8,6 +8,10 @@ from room import KINDS, USAGE, Result, files_of, kept
 BIG = "18446744073709551615"
 TRIAL_0 = b"trial 42 0\naccepted 0 0 0\nmember 0 total 0 runs 0\nmember 1 total 0 runs 0\nmember 2 total 0 runs 0\nepochs 1 former 0\n"
 TRIAL_1 = b"trial 42 1\naccepted 0 1 0\nmember 0 total 8 runs 1\nmember 1 total 8 runs 1\nmember 2 total 8 runs 1\nepochs 1 former 0\n"
+# The same on every computer, as docs/USE.md says: what 0.10.0 printed.
+TRIAL_12 = b"trial 42 12\naccepted 2 3 3\nmember 0 total 33 runs 8\nmember 1 total 33 runs 8\nmember 2 total 33 runs 8\nepochs 1 former 0\n"
+TRIAL_100000 = (b"trial 1 100000\naccepted 27021 27243 27098\nmember 0 total 166911 runs 86\nmember 1 total 166911 runs 86\n"
+                b"member 2 total 166911 runs 86\nepochs 1 former 0\n")
 STAT = b"group 7\nme 0\nmembers 2\naccepted 1 0\ntotal 5\nruns 1\nheld 0\nunstable 1\nepochs 1\nformer 0\n"
 STAT_FRESH = b"group 7\nme 0\nmembers 2\naccepted 0 0\ntotal 0\nruns 0\nheld 0\nunstable 0\nepochs 1\nformer 0\n"
 IDS = b'{"epoch":null,"runs":[{"first":[[2147483647,0,1,0]],"length":5}]}\n'
@@ -284,6 +288,7 @@ def trials(room):
                and lines[5] == "epochs 1 former 0", found)
     room.equal("the same again", room.run(folder, ["trial", "42", "20000"]), found)
     room.equal("the greatest seed", room.run(folder, ["trial", "2147483647", "0"]), Result(0, TRIAL_0.replace(b"42", b"2147483647"), b""))
+    room.equal("the most steps", room.run(folder, ["trial", "1", "100000"]), Result(0, TRIAL_100000, b""))
     room.equal("nothing was made", files_of(folder), {})
 
 

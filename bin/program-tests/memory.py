@@ -1,20 +1,23 @@
 """Want of memory. Each request of a command for memory is refused in turn, alone or with all after it: the status is 10 and nothing was printed
 or stored, or all is as without it. And requests that nothing justifies: a few bytes that tell large numbers, data as deep as it is long."""
 import random
-from commands import HELLO_1
+from commands import HELLO_1, IDS, STAT, TRIAL_12, edits, took
 from forms import (FRESH, HELLO, HELLO_MESSAGE, HELLO_OPERATION, JOURNAL, ORIGIN, at, deletion, epoch, file4, fresh, head, i32, ident, insertion, message,
                    operation, run, runs, text, typed, u32, u64, vector)
-from room import KINDS, Result, kept
+from room import KINDS, USAGE, Result, kept
 
 HUGE = 4000000000
 MANY = 0xFFFFFFFF
 SESSION = b"k 3\ni 0 A\np\nu\nt\nd 1 2\nr\ns 1\nm 81\n" + HELLO_MESSAGE + b"i 9 z\nu\nx\n"
 
 
-def refused(room, what, kind, content, words, given, numbers=None, is_session=False):
-    """Lets each request be refused, or those with these numbers."""
+def refused(room, what, kind, content, words, given, usual, numbers=None, is_session=False):
+    """Lets each request be refused, or those with these numbers. Without that the command ends as `usual` says; then a refusal leaves that, or the
+    status 10."""
     folder = room.replica(kind, content)
-    usual = room.run(folder, words, given, calls={})
+    found = room.run(folder, words, given, calls={})
+    if not room.equal("%s: %s without a refusal" % (kind, what), found, usual):
+        return
     count, new = room.counts()[0]["memory"], kept(folder)
     room.check("%s: %s asks for memory" % (kind, what), count > 2, count)
     # Where there is no memory for the words, nothing at all is written: that takes some requests for each word, which are the first.
@@ -44,18 +47,35 @@ def small(room):
     for kind in KINDS:
         # No keeper takes memory for a store, so most commands are tried over one of them.
         rows = [
-            ("edit", HELLO, ["edit"], b"i 2 XY\nr\nd 0 1\nb 3\ni 0 A\n"), ("text", HELLO, ["text"], b""), ("ids", HELLO, ["ids"], b""), ("stat", HELLO, ["stat"], b""),
-            ("send", HELLO, ["send", "1"], b""), ("take", fresh(1), ["take"], HELLO_MESSAGE), ("take again", HELLO_1, ["take"], HELLO_MESSAGE),
-            ("leave", HELLO, ["leave"], b""), ("a journal", JOURNAL, ["edit"], b"i 5 !\n"), ("a bad line", HELLO, ["edit"], b"i 0 A\nq\n"),
-            ("a refused line", HELLO, ["edit"], b"i 0 A\ni 9 x\n"), ("a damaged file", HELLO[:90], ["text"], b""), ("no message", HELLO, ["take"], b"hello"),
-            ("trial", HELLO, ["trial", "42", "12"], b""),
-        ] + [(what, content, words, given) for what, content, words, given in in_groups]
-        for what, content, words, given in rows if kind == "file" else rows[1:2] + rows[5:6]:
-            refused(room, what, kind, content, words, given)
-        refused(room, "session", kind, HELLO, ["session"], SESSION if kind == "file" else b"i 0 A\nu\n", is_session=True)
-    refused(room, "new", "slots", None, ["new", "7", "0", "2"], b"")
-    refused(room, "no replica", "slots", None, ["text"], b"")
-    refused(room, "no command", "slots", None, ["nonsense"], b"")
+            ("edit", HELLO, ["edit"], b"i 2 XY\nr\nd 0 1\nb 3\ni 0 A\n", done(edits(5))), ("text", HELLO, ["text"], b"", done(b"hello")),
+            ("ids", HELLO, ["ids"], b"", done(IDS)), ("stat", HELLO, ["stat"], b"", done(STAT)),
+            ("send", HELLO, ["send", "1"], b"", done(HELLO_MESSAGE)), ("take", fresh(1), ["take"], HELLO_MESSAGE, done(took(1))),
+            ("take again", HELLO_1, ["take"], HELLO_MESSAGE, done(took(repeated=1))), ("leave", HELLO, ["leave"], b"", done(edits(1))),
+            ("a journal", JOURNAL, ["edit"], b"i 5 !\n", done(edits(1))), ("a bad line", HELLO, ["edit"], b"i 0 A\nq\n", Result(4, b"", b"bad line 2\n")),
+            ("a refused line", HELLO, ["edit"], b"i 0 A\ni 9 x\n", Result(6, b"", b"line 2: range 9 6\n")),
+            ("a damaged file", HELLO[:90], ["text"], b"", Result(3, b"", b"damaged at 87\n")),
+            ("no message", HELLO, ["take"], b"hello", Result(4, b"", b"malformed at 0\n")), ("trial", HELLO, ["trial", "42", "12"], b"", done(TRIAL_12)),
+        ] + in_groups
+        for what, content, words, given, usual in rows if kind == "file" else rows[1:2] + rows[5:6]:
+            refused(room, what, kind, content, words, given, usual)
+        given, out = (SESSION, replies(room)) if kind == "file" else (b"i 0 A\nu\n", b"ok 2\nundone 1 1\nsaved\n")
+        refused(room, "session", kind, HELLO, ["session"], given, done(out), is_session=True)
+    refused(room, "new", "slots", None, ["new", "7", "0", "2"], b"", done(b"new 7 0 2\n"))
+    refused(room, "no replica", "slots", None, ["text"], b"", Result(2, b"", b"no replica\n"))
+    refused(room, "no command", "slots", None, ["nonsense"], b"", Result(1, b"", USAGE))
+
+
+def done(out):
+    return Result(0, out, b"")
+
+
+def replies(room):
+    """The replies to SESSION. The message is the one that `send` writes of the same text."""
+    folder = room.replica("file", HELLO, "other")
+    room.run(folder, ["edit"], b"i 0 A\nd 0 1\nd 1 2\nr\n")
+    sent = room.run(folder, ["send", "1"]).out
+    return (b"cursor 3\nok 2\ncursor 4\nundone 1 1\ntext 5\nhello\nok 4\nok 5\nmessage %d\n" % len(sent) + sent + b"\n" + took(repeated=1)
+            + b"no range 9 3\nundone 1 2\nbad\nsaved\n")
 
 
 def takes_in_groups(room):
@@ -66,15 +86,16 @@ def takes_in_groups(room):
     room.run(folders[0], ["edit"], b"i 2 A\n")
     room.run(folders[1], ["edit"], b"i 2 B\n")
     from_ben = room.run(folders[1], ["send", "0"]).out
-    rows = [("concurrent renames", kept(folders[0]), ["take"], from_ben)]
+    rows = [("concurrent renames", kept(folders[0]), ["take"], from_ben, done(took(2)))]
     room.run(folders[0], ["take"], from_ben)
-    rows.append(("text after them", kept(folders[0]), ["text"], b""))
+    # (what both wrote at one place comes in the order of their numbers)
+    rows.append(("text after them", kept(folders[0]), ["text"], b"", done(b"heABllo")))
     three = [room.replica("slots", fresh(k, 3), "of3-%d" % k) for k in range(3)]
     room.run(three[0], ["edit"], b"i 0 hello\ni 2 XY\nr\n")
     for member in (1, 2):
         room.run(three[member], ["take"], room.run(three[0], ["send", str(member)]).out)
     room.run(three[0], ["take"], room.run(three[1], ["send", "0"]).out)
-    rows.append(("the last acknowledgement", kept(three[0]), ["take"], room.run(three[2], ["send", "0"]).out))
+    rows.append(("the last acknowledgement", kept(three[0]), ["take"], room.run(three[2], ["send", "0"]).out, done(took())))
     return rows
 
 
@@ -82,17 +103,21 @@ def large(room):
     """A sample of the requests of larger commands."""
     lots = 5000
     many = file4(7, 1, 0, (1,), [], [[(1, 0, 20 * lots)]], b"".join(run(typed(0, 1, 20 * k), 10) + text(b"abcdefghij") for k in range(lots)), count_of_runs=lots)
+    letters = b"abcdefghij" * lots
+    ids = b'{"epoch":null,"runs":[%s]}\n' % b",".join(b'{"first":[[2147483647,0,1,%d]],"length":10}' % (20 * k) for k in range(lots))
     seeded = random.Random(7)
 
     def sample(count):
         return sorted(set(range(1, 6)) | set(range(count - 6, count + 1)) | set(seeded.sample(range(1, count + 1), min(count, 15))))
 
     for kind in KINDS:
-        refused(room, "text of 5,000 runs", kind, many, ["text"], b"", sample)
-        refused(room, "a rename of 5,000 runs", kind, many, ["edit"], b"r\n", sample)
-        refused(room, "ids of 5,000 runs", kind, many, ["ids"], b"", sample)
-        refused(room, "an insertion of 300,000 characters", kind, FRESH, ["edit"], b"i 0 " + b"x" * 300000 + b"\n", sample)
-        refused(room, "a session with 5,000 runs", kind, many, ["session"], b"i 7 x\nd 0 4000\nt\nu\n", sample, is_session=True)
+        refused(room, "text of 5,000 runs", kind, many, ["text"], b"", done(letters), sample)
+        refused(room, "a rename of 5,000 runs", kind, many, ["edit"], b"r\n", done(edits(1)), sample)
+        refused(room, "ids of 5,000 runs", kind, many, ["ids"], b"", done(ids), sample)
+        refused(room, "an insertion of 300,000 characters", kind, FRESH, ["edit"], b"i 0 " + b"x" * 300000 + b"\n", done(edits(1)), sample)
+        rest = (letters[:7] + b"x" + letters[7:])[4000:]
+        out = b"ok 2\nok 3\ntext %d\n%s\nundone 1 4000\nsaved\n" % (len(rest), rest)
+        refused(room, "a session with 5,000 runs", kind, many, ["session"], b"i 7 x\nd 0 4000\nt\nu\n", done(out), sample, is_session=True)
 
 
 # Few bytes that tell large numbers: what they are, the bytes, and the place of the field that is cut off or breaks its rule.
