@@ -2,7 +2,7 @@
 package.path = '../neovim/lua/?.lua;' .. package.path
 local compared = require('rls.compare')
 local file = assert(io.open('cases.json'))
-local function size(text) return text == '' and 0 or (vim.str_utfindex(text)) end
+local function size(text) return select(2, text:gsub('[^\128-\191]', '')) end
 for _, case in ipairs(vim.json.decode(file:read('*a'))) do
   local lines = {}
   for k, x in ipairs(compared(case.old, case.new)) do
