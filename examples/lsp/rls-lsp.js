@@ -9,7 +9,7 @@ import { Wire } from './wire.js';
 const ROUND = 300; // milliseconds between two looks into the shared folder
 const AGAIN = 30; // milliseconds until an editor is asked again that had changed its text meanwhile
 
-const played = (text, changes) => changes.reduce((now, { at, count, text: come }) => now.slice(0, at) + come + now.slice(at + count), text);
+const textAfter = (text, changes) => changes.reduce((now, { at, count, text: come }) => now.slice(0, at) + come + now.slice(at + count), text);
 
 const sizeOf = (changes) => changes.reduce((sum, { count, text }) => sum + count + text.length, 0);
 
@@ -35,7 +35,7 @@ function changesOf(text, told) {
   for (const { range, text: come } of told) {
     const at = range ? offsetOf(now, range.start) : 0;
     changes.push({ at, count: (range ? offsetOf(now, range.end) : now.length) - at, text: come });
-    now = played(now, changes.slice(-1));
+    now = textAfter(now, changes.slice(-1));
   }
   return changes;
 }
@@ -99,7 +99,7 @@ class Document {
   }
 
   /** What the editor tells. While it is asked for something, it isn't known yet whether this comes before it. */
-  changed(version, told) {
+  hear(version, told) {
     this.version = version;
     if (this.asked && this.held) this.held.push(told);
     else this.accept(told);
@@ -109,7 +109,7 @@ class Document {
   accept(told) {
     let typed = changesOf(this.shown, told);
     if (this.asked) typed = this.withoutAsked(typed);
-    this.shown = played(this.shown, typed);
+    this.shown = textAfter(this.shown, typed);
     [typed, this.pending] = crossed(typed, this.pending);
     for (const { at, count, text } of typed) this.session.replace(at, count, text).catch((error) => this.wire.tell(error.message));
   }
@@ -119,19 +119,19 @@ class Document {
    * it has made what it was asked for also where it hasn't, since its text had gone on. Then what it tells is nearer to the text from before.
    */
   withoutAsked(changes) {
-    const made = played(this.shown, this.asked);
+    const made = textAfter(this.shown, this.asked);
     let now = this.shown;
     for (let k = 0; k < changes.length; k += 1) {
-      now = played(now, [changes[k]]);
-      if (now === made) return this.made(made, changes.slice(k + 1));
+      now = textAfter(now, [changes[k]]);
+      if (now === made) return this.goOn(made, changes.slice(k + 1));
     }
     const [since, before] = [made, this.shown].map((text) => compared(text, now).found);
-    if (sizeOf(since) <= sizeOf(before)) return this.made(made, since.reverse());
+    if (sizeOf(since) <= sizeOf(before)) return this.goOn(made, since.reverse());
     this.giveUp();
     return changes;
   }
 
-  made(text, rest) {
+  goOn(text, rest) {
     [this.shown, this.asked] = [text, null];
     return rest;
   }
@@ -149,7 +149,7 @@ const wire = new Wire(process.stdin, process.stdout, {
   'textDocument/didOpen': async ({ textDocument: { uri, version, text } }) => {
     documents.set(uri, await Document.open(wire, uri, version, text));
   },
-  'textDocument/didChange': ({ textDocument: { uri, version }, contentChanges }) => documents.get(uri)?.changed(version, contentChanges),
+  'textDocument/didChange': ({ textDocument: { uri, version }, contentChanges }) => documents.get(uri)?.hear(version, contentChanges),
   'textDocument/didClose': async ({ textDocument: { uri } }) => {
     await documents.get(uri)?.close();
     documents.delete(uri);

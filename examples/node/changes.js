@@ -88,7 +88,7 @@ class Walk {
 }
 
 /** What the first list does and then the second one, whose places are those of the text after the first. */
-function followed(first, second, measure) {
+function composition(first, second, measure) {
   const [found, a, b] = [new Parts(), new Walk(first), new Walk(second)];
   while (!a.isOver || !b.isOver) {
     if (a.kind === GOES) {
@@ -111,7 +111,7 @@ function followed(first, second, measure) {
 function partsOf(changes, measure, from = 0, to = changes.length) {
   if (to - from > 1) {
     const middle = (from + to) >> 1;
-    return followed(partsOf(changes, measure, from, middle), partsOf(changes, measure, middle, to), measure);
+    return composition(partsOf(changes, measure, from, middle), partsOf(changes, measure, middle, to), measure);
   }
   const found = new Parts();
   if (to > from) {

@@ -21,7 +21,7 @@ export function changeOf(line) {
 }
 
 /** A string that the text may have; otherwise it is a RangeError. */
-export function checked(string) {
+export function validText(string) {
   if (/\p{Surrogate}/u.test(string)) throw new RangeError('a lone surrogate can not be in the text');
   return string;
 }

@@ -3,7 +3,7 @@ import { execFile } from 'node:child_process';
 import { EventEmitter } from 'node:events';
 import { promisify } from 'node:util';
 import { changesOf, CHARACTERS, crossed, placeAfter } from './changes.js';
-import { changeOf, checked, editsOf, lineOf } from './edits.js';
+import { changeOf, validText, editsOf, lineOf } from './edits.js';
 import { Refused, RlsError } from './errors.js';
 import { Program } from './program.js';
 import { headOf, statOf } from './reports.js';
@@ -222,9 +222,9 @@ export class Session extends EventEmitter {
   async replace(at, count, string) {
     if (this.#failure) throw this.#failure;
     const [from, to] = [this.#text.toCharacters(at), this.#text.toCharacters(at + count)];
-    const edits = editsOf({ at: from, count: to - from, text: checked(string) }, this.#version);
+    const edits = editsOf({ at: from, count: to - from, text: validText(string) }, this.#version);
     this.#text.splice(at, count, string);
-    this.#isTold(count > 0 && !string);
+    this.#noteTyped(count > 0 && !string);
     if (edits.length > 0) await this.#asked({ edits });
   }
 
@@ -239,15 +239,15 @@ export class Session extends EventEmitter {
   /** Makes the text this one, and where it stays as it is, what others write there keeps its place (examples/COMPARE.md). */
   async setText(string) {
     if (this.#failure) throw this.#failure;
-    const edits = changesOf(this.text, checked(string)).flatMap((change) => editsOf(change, this.#version));
+    const edits = changesOf(this.text, validText(string)).flatMap((change) => editsOf(change, this.#version));
     this.#text = new Text(string);
-    this.#isTold(false);
+    this.#noteTyped(false);
     if (edits.length > 0) await this.#asked({ edits });
   }
 
   // --- When to store
 
-  #isTold(isTaken) {
+  #noteTyped(isTaken) {
     const now = this.clock();
     this.#typed = { first: this.#typed?.first ?? now, last: now, isTaken };
   }

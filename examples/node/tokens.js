@@ -13,7 +13,7 @@ const MOST = 4096; // bytes of a file that shows a token
 const word = () => randomBytes(8).toString('hex');
 let before = Promise.resolve(); // one after another within this program; a session holds the folder against others
 
-async function readWritten(folder, isMore) {
+async function readRecord(folder, isMore) {
   const flags = constants.O_RDWR | constants.O_CREAT | constants.O_NOFOLLOW;
   const handle = await fs.open(path.join(folder, 'replica.token'), flags, 0o666).catch(() => null);
   if (!handle) return null;
@@ -34,8 +34,8 @@ async function readWritten(folder, isMore) {
 }
 
 /** What this replica wrote: its token, how many times, and what it called the last time; or, with `isMore`, what it is about to write. */
-function written(folder, isMore = false) {
-  before = before.then(() => readWritten(folder, isMore));
+function ownRecord(folder, isMore = false) {
+  before = before.then(() => readRecord(folder, isMore));
   return before;
 }
 
@@ -43,13 +43,13 @@ const nameOf = (head, token) => `${head.group}-${head.me}-${token}.member`;
 
 /** Says in the shared folder that this replica writes, before it does. */
 export async function show(shared, head, folder) {
-  const now = await written(folder, true);
+  const now = await ownRecord(folder, true);
   if (now) await replace(path.join(shared, nameOf(head, now.token)), `${now.count} ${now.last}\n`);
 }
 
 /** A UsedTwice if another replica with this one's number wrote into the shared folder, or a copy of this one. */
 export async function look(shared, head, folder, names) {
-  const own = await written(folder);
+  const own = await ownRecord(folder);
   const shape = new RegExp(`^${nameOf(head, '([0-9a-f]{16})').replace('.', '\\.')}$`);
   for (const name of own ? names : []) {
     const [, token] = shape.exec(name) ?? [];

@@ -349,7 +349,7 @@ class Twice(Room):
                 box.sync(x)
         # The way out: one of them goes on, once the file of the other one is gone.
         found = [x for x in os.listdir(boxes[0].folder) if x.endswith(".member")]
-        os.unlink(os.path.join(boxes[0].folder, next(x for x in found if rls.tokens.written(pair[1].folder).token in x)))
+        os.unlink(os.path.join(boxes[0].folder, next(x for x in found if rls.tokens.own_record(pair[1].folder).token in x)))
         pair[0].insert(0, "more " * 40)
         self.assertEqual(boxes[0].sync(pair[0])[1], 2)
 

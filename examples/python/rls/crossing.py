@@ -57,7 +57,7 @@ class _Walk:
         return text
 
 
-def _followed(first: Parts, second: Parts) -> Parts:
+def _composition(first: Parts, second: Parts) -> Parts:
     """What the first does and then the second, whose places are those of the text after the first."""
     found: Parts = []
     a, b = _Walk(first), _Walk(second)
@@ -81,7 +81,7 @@ def _parts(changes: Sequence[Change]) -> Parts:
     """By halves, so that the time isn't the square of how many they are."""
     if len(changes) > 1:
         middle = len(changes) // 2
-        return _followed(_parts(changes[:middle]), _parts(changes[middle:]))
+        return _composition(_parts(changes[:middle]), _parts(changes[middle:]))
     found: Parts = []
     for at, count, text in changes:
         for part in Part(STAYS, at), Part(GOES, count), Part(COMES, len(text), text):

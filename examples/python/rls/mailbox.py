@@ -152,12 +152,12 @@ class Mailbox:
                 found.append((name, told.st_ino, told.st_size, told.st_mtime_ns))
             except OSError:
                 continue
-        return summed((os.path.abspath(self.folder), limits.RENAME_AT, state_of(replica.folder), found))
+        return sum_of((os.path.abspath(self.folder), limits.RENAME_AT, state_of(replica.folder), found))
 
     def is_idle(self, replica: Replica) -> bool:
         """Whether nothing has changed here or there since all was taken and sent, also by an earlier program."""
         is_stored = not isinstance(replica, Session) or not replica.unsaved
-        return is_stored and noted(replica.folder).get("mark") == self._mark(replica)
+        return is_stored and note_in(replica.folder).get("mark") == self._mark(replica)
 
     def sync(self, replica: Replica) -> Tuple[Found, int]:
         """Takes what came, renames if that is due, and sends what is new. Answers the reports, each a pair of the sender and a Report, or
@@ -166,8 +166,8 @@ class Mailbox:
         if self.is_idle(replica):
             return [], 0
         # A round in which nothing came and nothing went is what the next are compared with, as it was before it.
-        before, note = self._mark(replica), noted(replica.folder)
-        if note.get("state") == summed(state_of(replica.folder)):
+        before, note = self._mark(replica), note_in(replica.folder)
+        if note.get("state") == sum_of(state_of(replica.folder)):
             for sender, mark in note.get("taken", {}).items():
                 self.taken.setdefault(int(sender), bytes.fromhex(mark))
         reports = self.receive(replica)
@@ -175,7 +175,7 @@ class Mailbox:
         sent = self.send(replica)
         taken = {sender: mark.hex() for sender, mark in self.taken.items()}
         is_quiet = not reports and not sent and not self.warned
-        keep(replica.folder, {"mark": before if is_quiet else "", "state": summed(state_of(replica.folder)), "taken": taken})
+        write_note(replica.folder, {"mark": before if is_quiet else "", "state": sum_of(state_of(replica.folder)), "taken": taken})
         return reports, sent
 
     # -- cursors, which no message has: a file for each member
@@ -209,11 +209,11 @@ def shown(name: str) -> str:
     return "".join(x for x in name if x.isprintable())[:MOST_NAME].strip()
 
 
-def summed(value: object) -> str:
+def sum_of(value: object) -> str:
     return hashlib.sha256(repr(value).encode("utf-8", "surrogateescape")).hexdigest()
 
 
-def noted(folder: str) -> Dict[str, Any]:
+def note_in(folder: str) -> Dict[str, Any]:
     """What a round noted in the replica's folder."""
     try:
         with open(os.path.join(folder, SYNCED), encoding="ascii") as file:
@@ -223,7 +223,7 @@ def noted(folder: str) -> Dict[str, Any]:
     return found if isinstance(found, dict) else {}
 
 
-def keep(folder: str, note: Dict[str, Any]) -> None:
+def write_note(folder: str, note: Dict[str, Any]) -> None:
     try:
         with open(os.path.join(folder, SYNCED), "w", encoding="ascii") as file:
             json.dump(note, file)

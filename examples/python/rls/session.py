@@ -139,7 +139,7 @@ class Session(Editing):
         for line in lines:
             self._ask(line)
             self._edited()
-            self._told_change(False)
+            self._note_typed(False)
 
     def replace(self, at: int, count: int, text: str) -> None:
         """A change of an editor: in place of so many characters from a place on comes this text. Each key may be one."""
@@ -148,14 +148,14 @@ class Session(Editing):
         elif count or text:
             self._ask(f"e {at} {count} {escaped(no_surrogates(text))}")
             self._edited()
-        self._told_change(count > 0 and not text)
+        self._note_typed(count > 0 and not text)
 
     def set_text(self, new: str) -> None:
         for change in changes(self.text(), no_surrogates(new)):
             self.replace(*change)
-            self._told_change(False)
+            self._note_typed(False)
 
-    def _told_change(self, is_taken: bool) -> None:
+    def _note_typed(self, is_taken: bool) -> None:
         now = time.monotonic()
         self.typed = (self.typed[0] if self.typed else now, now, is_taken)
 

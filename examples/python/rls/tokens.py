@@ -16,19 +16,19 @@ SHOWN = re.compile(r"([0-9]{1,20}) ([0-9a-f]{16})")
 MOST = 4_096                # bytes of a file that shows a token
 
 
-class Written(NamedTuple):
+class Record(NamedTuple):
     """The token of a replica; how many times it wrote into shared folders, and what it called the last time."""
     token: str
     count: int
     last: str
 
 
-def _read(fd: int) -> Optional[Written]:
+def _read(fd: int) -> Optional[Record]:
     found = LINE.fullmatch(os.pread(fd, MOST, 0).decode("ascii", "replace"))
-    return Written(found[1], int(found[2]), found[3]) if found else None
+    return Record(found[1], int(found[2]), found[3]) if found else None
 
 
-def written(folder: str, more: bool = False) -> Optional[Written]:
+def own_record(folder: str, more: bool = False) -> Optional[Record]:
     """What this replica wrote; with `more` it is about to write once more. None if its folder may not be written. One line of one length is
     written in place, so that it is whole at each moment."""
     try:
@@ -40,7 +40,7 @@ def written(folder: str, more: bool = False) -> Optional[Written]:
         was = _read(fd)
         if was and not more:
             return was
-        now = Written(was.token, was.count + 1, secrets.token_hex(8)) if was else Written(secrets.token_hex(8), 0, secrets.token_hex(8))
+        now = Record(was.token, was.count + 1, secrets.token_hex(8)) if was else Record(secrets.token_hex(8), 0, secrets.token_hex(8))
         os.pwrite(fd, f"{now.token} {now.count:020d} {now.last}\n".encode(), 0)
         os.fsync(fd)
         return now
@@ -56,14 +56,14 @@ def path_of(shared: str, head: Head, token: str) -> str:
 
 def show(shared: str, head: Head, folder: str) -> None:
     """Says in the shared folder that this replica writes, before it does."""
-    now = written(folder, more=True)
+    now = own_record(folder, more=True)
     if now:
         replace(path_of(shared, head, now.token), f"{now.count} {now.last}\n".encode())
 
 
 def look(shared: str, head: Head, folder: str, names: Iterable[str]) -> None:
     """UsedTwice if another replica with this one's number wrote into the shared folder, or a copy of this one."""
-    own = written(folder)
+    own = own_record(folder)
     name_of = re.compile(rf"{head.group}-{head.sender}-([0-9a-f]{{16}})\.member")
     for name in sorted(names):
         found = name_of.fullmatch(name)
