@@ -132,7 +132,7 @@ one that is there and answers, and gets the rest."
         ;; The name of the file is one that nobody knows.
         (file-error (rls--note (format "to %d" to)
                                (if (file-writable-p rls--shared) (or (nth 2 fault) (error-message-string fault))
-                                 (format "you may not write into the shared folder (%s)"
+                                 (format "no permission to write there (%s)"
                                          (file-attribute-modes (file-attributes rls--shared))))))))))
 
 (defun rls--there-p (to message)

@@ -129,7 +129,7 @@ play_apart() {
   rm -f "$room/shared"/* && chmod 755 "$room" "$room/shared"
   if [ "$(id -u)" != 0 ]; then chmod 555 "$room/shared"; else chown -R 65534:65534 "$room/ada"; fi
   begin "$([ "$(id -u)" != 0 ] || echo 'env HOME=/tmp setpriv --reuid 65534 --regid 65534 --clear-groups') $1"
-  shows 'a shared folder into which one may not write' 'you may not write into the shared folder ('
+  shows 'a shared folder into which one may not write' 'no permission to write'
   chmod 777 "$room/shared"
   begin_typing=i
   append one

@@ -52,7 +52,7 @@ end
 
 -- What the system says of a file in a folder, without the file's name, which nobody knows.
 local function said(why, folder)
-  if why and why:match('^EACCES') then return ('you may not write into the shared folder (%s)'):format(vim.fn.getfperm(folder)) end
+  if why and why:match('^EACCES') then return ('no permission to write there (%s)'):format(vim.fn.getfperm(folder)) end
   return why and why:match('^%u+: ([^:]+)') or why
 end
 

@@ -57,7 +57,7 @@ function rls#files#write(path, data) abort
     " Vim names the file, whose name nobody knows, and not what the system says.
     let folder = fnamemodify(a:path, ':h')
     throw filewritable(folder) == 2 ? 'rls: it can not be written: ' . matchstr(v:exception, '^Vim(let):E\d*: \zs[^/"]*')
-          \ : 'rls: you may not write into the shared folder (' . getfperm(folder) . ')'
+          \ : 'rls: no permission to write there (' . getfperm(folder) . ')'
   finally
     call delete(new)
   endtry

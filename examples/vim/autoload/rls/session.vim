@@ -123,6 +123,10 @@ endfunction
 
 " The lines of bytes. In Vim's strings a line feed within a line means a NUL of the text.
 function rls#session#lines_of(blob) abort
+  if len(a:blob) > 0 && len(a:blob) < 1000 && index(a:blob, 0) < 0
+    " Its bytes as characters, and these as bytes again.
+    return split(iconv(list2str(blob2list(a:blob)), 'utf-8', 'latin1'), "\n", 1)
+  endif
   let file = tempname()
   call writefile(a:blob, file)
   let lines = readfile(file, 'b')
