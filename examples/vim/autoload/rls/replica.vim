@@ -29,7 +29,8 @@ endfunction
 " A replica with its session, which has no buffer as yet.
 function rls#replica#new(folder, shared) abort
   let r = {'folder': rls#replica#full(a:folder), 'shared': rls#replica#full(a:shared), 'taken': {}, 'sent': {}, 'seen': {}, 'problems': {}, 'failed': '',
-        \ 'unsaved': 0, 'since': 0, 'waits_until': 0, 'is_cut': 0, 'told': [], 'edition': 0, 'is_opening': 1, 'fault': '', 'changes': g:rls_rename_at, 'is_refusal_told': 0, 'silent': 0, 'boundary': 0, 'steps': 0, 'behind': 0, 'due': -1, 'shown': -1,
+        \ 'fault': '', 'is_opening': 1, 'told': [], 'silent': 0, 'edition': 0, 'is_cut': 0, 'boundary': 0, 'steps': 0, 'behind': 0,
+        \ 'unsaved': 0, 'since': 0, 'waits_until': 0, 'due': -1, 'changes': g:rls_rename_at, 'is_refusal_told': 0, 'shown': -1,
         \ 'cursor': '', 'places': {}, 'is_lookup_due': 0, 'last': {}, 'marks': {}, 'looked': 0, 'is_away': 0}
   call rls#replica#look_for(r.folder)
   if &encoding !=# 'utf-8'
