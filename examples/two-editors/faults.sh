@@ -156,11 +156,10 @@ play_large() {
   size=$(stat -c %s "$room/shared/7-1-0.rlsm")
   [ "$size" = 67108864 ] || { echo "FAILED  a message of $size bytes"; exit 1; }
   begin "$1"
+  shows 'the status line' 'member 0 of 2'
   shows 'what a message of 67,108,864 bytes brought' end
-  begin_typing=i
-  append 'begin '
-  end_typing
+  type_at_end ' of it'
   store
-  ben_has 'what is typed then' 'begin end'
+  ben_has 'what is typed then' 'end of it'
   leave_editor
 }
