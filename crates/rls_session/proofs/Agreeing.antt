@@ -18,6 +18,7 @@ use Rattle.rls_model.specs.declared.receipt.Taken.{Taken}
 use Rattle.rls_model.specs.Editing.{made, next_seq}
 use Rattle.rls_model.specs.History.{group_of, members_of}
 use Rattle.rls_model.specs.Receiving.{State}
+use Rattle.rls_model.specs.WellFormed.{IsEdit}
 use Rattle.rls_model.specs.Taking.{message_for, take_message}
 use Rattle.rls_seen.specs.Edits.{edit_fault_over, edited, made_over}
 use Rattle.rls_seen.specs.Messages.{message_over, taken_over}
@@ -74,34 +75,38 @@ use Rattle.rls_session.proofs.Entries.{caught_up_whole, entries_alike, entries_w
 use Rattle.rls_session.proofs.Steps.{steps_begun, made_steps, steps_after}
 use Rattle.rls_session.proofs.Given.{IsGiven}
 use Rattle.rls_session.proofs.Whole.{last_undoable, whole_edited, whole_on, whole_undone}
-use Rattle.rls_session.proofs.AlikeSittings.{IsAlike, AreAlike, AreAlmost, almost, performed_storing, told_alike, told_rested_alike}
+use Rattle.rls_session.proofs.AlikeSittings.{IsAlike, IsAlmost, AreAlike, AreAlmost, almost, performed_storing, told_alike, told_rested_alike}
 use Rattle.rls_session.proofs.AlikeSteps.{backed_almost, redone_almost, turned_changes, begun_stays, ended_alike}
 use Rattle.rls_sync.proofs.Given.{message_given}
 
 -- ---- edits
 
-number_alike : (s : Seen) (t : State) (edit : Edit) → StandsFor s t → own_count s + 1 ≡ next_seq t.history
+pub number_alike : (s : Seen) (t : State) (edit : Edit) → StandsFor s t → own_count s + 1 ≡ next_seq t.history
 unfolding made_over made
 number_alike s t edit h = ap (λ o. o.seq) (made_alike s t edit h)
 
-edited_almost : (d : Sitting Seen) (f : Sitting State) (r : Result Edit LineFault) → IsAlike d f → IsMeantWell edit_fault_over d.state r → AreAlmost (answers.edited by_parts d r) (answers.edited by_history f r)
-edited_almost d f (Err fault) h w = record { reply = refl; states = almost d f h }
-edited_almost d f (Ok edit) h w =
+-- one that is made
+pub made_almost : (d : Sitting Seen) (f : Sitting State) (edit : Edit) → IsAlmost d f → IsEdit edit → edit_fault_over d.state edit ≡ None → IsAlmost (answers.made_sitting by_parts d edit) (answers.made_sitting by_history f edit)
+made_almost d f edit h w fits =
     let s = d.state in
     let t = f.state in
     record {
-      reply = ap ok_text (number_alike s t edit h.stands);
-      states = record {
-        stands = edited_stands s t edit w.0 w.1 h.stands;
-        storing_is = edited_storing s edit (storing s h.sane h.writable) w.0 w.1;
-        entries = ap (λ es. es ++ entries_over s edit) h.entries ∙ ap (λ es. f.entries ++ es) (entries_alike s t edit h.stands);
-        cursors = h.cursors;
-        tells = h.tells;
-        whole = whole_edited s (edited s edit) d.entries (d.entries ++ entries_over s edit) d.cursors edit (accepted_names s (made_over s edit)) refl h.whole;
-        texts = whole_more d.entries (entries_over s edit) h.texts (entries_whole s t edit h.stands);
-        steps = made_steps s t edit d.recorded f.recorded h.stands (edited_stands s t edit w.0 w.1 h.stands) h.steps;
-      };
+      stands = edited_stands s t edit w fits h.stands;
+      storing_is = edited_storing s edit h.storing_is w fits;
+      entries = ap (λ es. es ++ entries_over s edit) h.entries ∙ ap (λ es. f.entries ++ es) (entries_alike s t edit h.stands);
+      cursors = h.cursors;
+      tells = h.tells;
+      whole = whole_edited s (edited s edit) d.entries (d.entries ++ entries_over s edit) d.cursors edit (accepted_names s (made_over s edit)) refl h.whole;
+      texts = whole_more d.entries (entries_over s edit) h.texts (entries_whole s t edit h.stands);
+      steps = made_steps s t edit d.recorded f.recorded h.stands (edited_stands s t edit w fits h.stands) h.steps;
     }
+
+edited_almost : (d : Sitting Seen) (f : Sitting State) (r : Result Edit LineFault) → IsAlike d f → IsMeantWell edit_fault_over d.state r → AreAlmost (answers.edited by_parts d r) (answers.edited by_history f r)
+edited_almost d f (Err fault) h w = record { reply = refl; states = almost d f h }
+edited_almost d f (Ok edit) h w = record {
+  reply = ap ok_text (number_alike d.state f.state edit h.stands);
+  states = made_almost d f edit (almost d f h) w.0 w.1;
+}
 
 pub line_almost : (d : Sitting Seen) (f : Sitting State) (line : Line) → IsAlike d f → IsLine line → AreAlmost (answers.edited by_parts d (answers.read_line by_parts d.state line)) (answers.edited by_history f (answers.read_line by_history f.state line))
 line_almost d f line h w =
@@ -366,6 +371,7 @@ sent_alike s t to h =
 pub answer_alike : (d : Sitting Seen) (f : Sitting State) (r : Request) → IsGiven r → IsAlike d f → AreAlike (answer by_parts d r) (answer by_history f r)
 unfolding answer
 answer_alike d f (Does (orders.Edit line)) g h = told_rested_alike d f _ _ _ _ h.tells (line_changes_alike d f line h) (line_almost d f line h g)
+answer_alike d f (Does (orders.Change at n cs)) g h = record { reply = refl; states = h }
 answer_alike d f (Does orders.Undo) g h =
     let e = with_caught_up by_parts d in
     let u = with_caught_up by_history f in
@@ -388,7 +394,7 @@ answer_alike d f (Does orders.Text) g h = record { reply = ap (λ cs. bytes_text
 answer_alike d f (Does (orders.Take len)) g h = record { reply = refl; states = h }
 answer_alike d f (Does (orders.Send to)) g h = record { reply = sent_alike d.state f.state to h.stands; states = h }
 answer_alike d f (Does orders.Stat) g h = record { reply = ap (λ (t : List ℕ). bytes_text (codes "stat") t) (stat_alike d.state f.state h.stands); states = h }
-answer_alike d f (Does orders.Version) g h = record { reply = refl; states = h }
+answer_alike d f (Does (orders.Version n)) g h = record { reply = refl; states = h }
 answer_alike d f (Does orders.Store) g h = record { reply = refl; states = h }
 answer_alike d f (Does (orders.Tell on)) g h = record {
   reply = refl;

@@ -17,9 +17,10 @@ use Rattle.rls_anchor.proofs.Places.{settled_alike as anchor_alike}
 use Rattle.rls_session.specs.declared.desk.TheConstants.{KEPT_ENTRIES}
 use Rattle.rls_session.specs.Cursors.{moved}
 use Rattle.rls_session.proofs.Numbered.{all_moved_alike}
-use Rattle.rls_session.specs.Answers.{Sitting, answer, resumed, sitting_at}
+use Rattle.rls_session.specs.Answers.{Sitting, resumed, sitting_at}
 use Rattle.rls_session.specs.Courses.{Course, course, course_of, stretches, stretches_within}
 use Rattle.rls_session.specs.Desks.{AreUndoable}
+use Rattle.rls_session.specs.Seats.{Seat, at_work, closed, respond, resumed_seat, seated}
 use Rattle.rls_session.specs.Sessions.{by_history, by_parts, session, session_in}
 use Rattle.rls_session.proofs.Courses.{IsSameCourse, courses_alike}
 use Rattle.rls_session.proofs.Resumed.{whole_left}
@@ -31,7 +32,7 @@ use Rattle.rls_undo.proofs.Dropping.{greatest_stays}
 use Rattle.rls_undo.proofs.Alike.{settled_alike}
 use Rattle.rls_session.proofs.Given.{IsGiven, cut_given}
 use Rattle.rls_session.proofs.AlikeSittings.{IsAlike}
-use Rattle.rls_session.proofs.Agreeing.{answer_alike}
+use Rattle.rls_session.proofs.AlikeSeats.{AreSeatsAlike, at_work_alike, respond_alike, seated_alike}
 
 -- ---- after a store
 
@@ -63,32 +64,44 @@ AreSameCourses R [] (d ∷ ds) = ⊥
 AreSameCourses R (c ∷ cs) [] = ⊥
 AreSameCourses R (c ∷ cs) (d ∷ ds) = IsSameCourse R c d × AreSameCourses R cs ds
 
-stretches_alike : (n : ℕ) (d : Sitting Seen) (f : Sitting State) (input : List ℕ) → IsBytes input → IsAlike d f
-    → AreSameCourses IsAlike (map (course_of (answer by_parts)) (stretches_within (answer by_parts) (resumed by_parts) n d input)) (map (course_of (answer by_history)) (stretches_within (answer by_history) (resumed by_history) n f input))
+-- with the drafts made
+resumed_seats : (b : Seat Seen) (g : Seat State) → AreSeatsAlike b g → AreSeatsAlike (resumed_seat by_parts b) (resumed_seat by_history g)
+resumed_seats b g h = seated_alike _ _ (resumed_alike (at_work by_parts b) (at_work by_history g) (at_work_alike b g h))
+
+stretches_alike : (n : ℕ) (d : Seat Seen) (f : Seat State) (input : List ℕ) → IsBytes input → AreSeatsAlike d f
+    → AreSameCourses AreSeatsAlike (map (course_of (respond by_parts)) (stretches_within (respond by_parts) (resumed_seat by_parts) n d input)) (map (course_of (respond by_history)) (stretches_within (respond by_history) (resumed_seat by_history) n f input))
 stretches_alike zero d f input b h = tt
 stretches_alike (suc n) d f input b h = (
   same,
-  subst (λ (m : ℕ). AreSameCourses IsAlike (later_of (course (answer by_parts) d input).stores) (their_later (course (answer by_history) f input).stores m)) same.used
-      (subst (λ (x : Bool). AreSameCourses IsAlike (later_of (course (answer by_parts) d input).stores) (their_later x (course (answer by_parts) d input).used)) same.stores (go (course (answer by_parts) d input).stores (λ x y rest b h. stretches_alike n x y rest b h))),
+  subst (λ (m : ℕ). AreSameCourses AreSeatsAlike (later_of (course (respond by_parts) d input).stores) (their_later (course (respond by_history) f input).stores m)) same.used
+      (subst (λ (x : Bool). AreSameCourses AreSeatsAlike (later_of (course (respond by_parts) d input).stores) (their_later x (course (respond by_parts) d input).used)) same.stores (go (course (respond by_parts) d input).stores (λ x y rest b h. stretches_alike n x y rest b h))),
 )
   where
-    same : IsSameCourse IsAlike (course (answer by_parts) d input) (course (answer by_history) f input)
-    same = courses_alike (answer by_parts) (answer by_history) IsAlike IsGiven IsBytes (λ d f r g k. let a = answer_alike d f r g k in (a.reply, a.states)) (λ x bytes c. (cut_given (x ∷ bytes) c, IsBytes-tail x bytes c)) 0 d f input b h
+    same : IsSameCourse AreSeatsAlike (course (respond by_parts) d input) (course (respond by_history) f input)
+    same = courses_alike (respond by_parts) (respond by_history) AreSeatsAlike IsGiven IsBytes (λ d f r g k. let a = respond_alike d f r g k in (a.reply, a.states)) (λ x bytes c. (cut_given (x ∷ bytes) c, IsBytes-tail x bytes c)) 0 d f input b h
 
-    later_of : Bool → List (Course (Sitting Seen))
-    later_of x = map (course_of (answer by_parts)) (cond x (stretches_within (answer by_parts) (resumed by_parts) n (resumed by_parts (course (answer by_parts) d input).state) (drop (suc (course (answer by_parts) d input).used) input)) [])
+    later_of : Bool → List (Course (Seat Seen))
+    later_of x = map (course_of (respond by_parts)) (cond x (stretches_within (respond by_parts) (resumed_seat by_parts) n (resumed_seat by_parts (course (respond by_parts) d input).state) (drop (suc (course (respond by_parts) d input).used) input)) [])
 
-    their_later : Bool → ℕ → List (Course (Sitting State))
-    their_later x m = map (course_of (answer by_history)) (cond x (stretches_within (answer by_history) (resumed by_history) n (resumed by_history (course (answer by_history) f input).state) (drop (suc m) input)) [])
+    their_later : Bool → ℕ → List (Course (Seat State))
+    their_later x m = map (course_of (respond by_history)) (cond x (stretches_within (respond by_history) (resumed_seat by_history) n (resumed_seat by_history (course (respond by_history) f input).state) (drop (suc m) input)) [])
 
-    go : (x : Bool) → ((d : Sitting Seen) (f : Sitting State) (rest : List ℕ) → IsBytes rest → IsAlike d f
-        → AreSameCourses IsAlike (map (course_of (answer by_parts)) (stretches_within (answer by_parts) (resumed by_parts) n d rest)) (map (course_of (answer by_history)) (stretches_within (answer by_history) (resumed by_history) n f rest)))
-        → AreSameCourses IsAlike (later_of x) (their_later x (course (answer by_parts) d input).used)
+    go : (x : Bool) → ((d : Seat Seen) (f : Seat State) (rest : List ℕ) → IsBytes rest → AreSeatsAlike d f
+        → AreSameCourses AreSeatsAlike (map (course_of (respond by_parts)) (stretches_within (respond by_parts) (resumed_seat by_parts) n d rest)) (map (course_of (respond by_history)) (stretches_within (respond by_history) (resumed_seat by_history) n f rest)))
+        → AreSameCourses AreSeatsAlike (later_of x) (their_later x (course (respond by_parts) d input).used)
     go false more = tt
-    go true more = more (resumed by_parts (course (answer by_parts) d input).state) (resumed by_history (course (answer by_history) f input).state) (drop (suc (course (answer by_parts) d input).used) input) (IsBytes-drop (suc (course (answer by_parts) d input).used) input b) (resumed_alike _ _ same.states)
+    go true more = more (resumed_seat by_parts (course (respond by_parts) d input).state) (resumed_seat by_history (course (respond by_history) f input).state) (drop (suc (course (respond by_parts) d input).used) input) (IsBytes-drop (suc (course (respond by_parts) d input).used) input b) (resumed_seats _ _ same.states)
+
+closed_alike : (cs : List (Course (Seat Seen))) (ds : List (Course (Seat State))) → AreSameCourses AreSeatsAlike cs ds → AreSameCourses IsAlike (map (closed by_parts) cs) (map (closed by_history) ds)
+closed_alike [] [] h = tt
+closed_alike [] (d ∷ ds) h = absurd h
+closed_alike (c ∷ cs) [] h = absurd h
+closed_alike (c ∷ cs) (d ∷ ds) h = (record { replies = (h.0).replies; used = (h.0).used; stores = (h.0).stores; states = at_work_alike c.state d.state (h.0).states }, closed_alike cs ds h.1)
 
 pub sessions_alike : (s : Seen) (t : State) (input : List ℕ) → IsBytes input → StandsFor s t → IsSane s → AreWritable s → AreSameCourses IsAlike (session s input) (session_in t input)
 unfolding stretches
 sessions_alike s t input b h sane writable =
-    stretches_alike (suc (length input)) (sitting_at s) (sitting_at t) input b
-    (record { stands = h; sane = sane; writable = writable; entries = refl; cursors = refl; tells = refl; whole = record { undoable = tt; anchored = tt }; texts = tt; steps = record { same = refl; kept = tt; spelled = (tt, tt) } })
+    let n = suc (length input) in
+    closed_alike (map (course_of (respond by_parts)) (stretches_within (respond by_parts) (resumed_seat by_parts) n (seated (sitting_at s)) input)) (map (course_of (respond by_history)) (stretches_within (respond by_history) (resumed_seat by_history) n (seated (sitting_at t)) input))
+    (stretches_alike n (seated (sitting_at s)) (seated (sitting_at t)) input b
+    (seated_alike (sitting_at s) (sitting_at t) (record { stands = h; sane = sane; writable = writable; entries = refl; cursors = refl; tells = refl; whole = record { undoable = tt; anchored = tt }; texts = tt; steps = record { same = refl; kept = tt; spelled = (tt, tt) } })))

@@ -1,24 +1,19 @@
 -- What is answered, from its parts.
-use Rattle.std.proofs.Common.{◌≡◌, ◌∙◌, ◌<◌, ◌≤◌, ◌+◌, ◌-◌, ℕ, Bool, suc, true, false, ltb, List, [], ◌∷◌, ◌++◌, length, Option, Some, None, Result, Ok, Err, IfOk, OnOk, OnErr, append-nil, refl, sym, ap, subst, arith, get_or}
+use Rattle.std.proofs.Common.{◌≡◌, ◌∙◌, ◌<◌, ◌≤◌, ◌-◌, ℕ, Bool, suc, true, false, ltb, List, [], ◌∷◌, ◌++◌, length, Option, Some, None, Result, Ok, Err, IfOk, OnOk, OnErr, append-nil, refl, sym, ap, subst, arith, get_or}
 use Rattle.std.specs.Prelude.{IsTrue, ◌↔◌, codes}
 use Rattle.std.proofs.lemmas.Bool.Decides.{nat_tests}
 use Rattle.std.proofs.lemmas.Option.{slice_get-get_or}
 use Rattle.rls_runs.specs.Entries.{Entries, chars_in}
-use Rattle.rls_ops.specs.declared.message.Message.{Message}
 use Rattle.rls_ops.specs.Spelling.{message_bytes}
 use Rattle.rls_model.specs.declared.edit.Edit.{Edit}
 use Rattle.rls_model.specs.declared.edit.EditError.{EditError}
 use Rattle.rls_model.specs.declared.edit.EditError.TheVariants as errors
-use Rattle.rls_model.specs.declared.receipt.Taken.{Taken}
 use Rattle.rls_seen.specs.Edits.{edit_fault_over, IsFault}
 use Rattle.rls_seen.specs.Edits as edits
-use Rattle.rls_seen.specs.Messages.{message_over, taken_over, taken_of}
-use Rattle.rls_seen.specs.Seen.{Seen, members, own_count, text_over}
-use Rattle.rls_replica.specs.Faults.{IsForeign}
-use Rattle.rls_report.specs.declared.failures.CommandError.TheVariants.{NotMember, Malformed, OtherGroup}
-use Rattle.rls_report.specs.declared.failures.LineFault.{LineFault}
+use Rattle.rls_seen.specs.Messages.{message_over}
+use Rattle.rls_seen.specs.Seen.{Seen, members, text_over}
+use Rattle.rls_report.specs.declared.failures.CommandError.TheVariants.{NotMember}
 use Rattle.rls_report.specs.declared.failures.LineFault.TheVariants as faults
-use Rattle.rls_report.specs.Reports.{take_text}
 use Rattle.rls_stages.specs.Lines.{allowed, line_fault}
 use Rattle.rls_undo.specs.declared.entry.Entry.{Entry}
 use Rattle.rls_undo.specs.declared.undo.Undone.{Undone}
@@ -37,16 +32,15 @@ use Rattle.rls_steps.specs.Recorded.{Recorded}
 use Rattle.rls_session.specs.Courses.{Answered}
 use Rattle.rls_anchor.specs.declared.anchor.Anchor.{Anchor}
 use Rattle.rls_anchor.specs.Anchors.{anchor_over}
-use Rattle.rls_stages.proofs.Kept.{is_ours, not_for}
 use Rattle.rls_session.specs.Answering.{IsAnswered}
 use Rattle.rls_session.specs.declared.desk.Turn.{Turn}
 use Rattle.rls_session.specs.declared.desk.Turn.TheVariants as turns
 use Rattle.rls_session.specs.declared.orders.Side.{Side}
-use Rattle.rls_session.specs.Answers.{Sitting, edited, if_steps, made_sitting, says, told_rested, turn_text, turned, turned_group, turned_reply, with_changes, with_begun, with_entries, with_recorded, pointed, sent, spelled, taken, undone, undone_changes, with_cursors, with_state}
+use Rattle.rls_session.specs.Answers.{Sitting, edited, if_steps, made_sitting, says, told_rested, turn_text, turned, turned_group, turned_reply, with_changes, with_begun, with_entries, with_recorded, pointed, sent, spelled, undone, with_cursors, with_state}
 use Rattle.rls_session.specs.declared.cursors.Cursor.{Cursor}
 use Rattle.rls_session.specs.Cursors.{cursors_with}
-use Rattle.rls_session.specs.Desks.{IsTurnTold, TellsFault, planned_changes, sitting_of}
-use Rattle.rls_session.specs.Replies.{again_text, anchor_text, back_text, ok_text, undone_text, nothing_text, cursor_text, bytes_text, refused_text, failed_text}
+use Rattle.rls_session.specs.Desks.{IsTurnTold, TellsFault, sitting_of}
+use Rattle.rls_session.specs.Replies.{again_text, anchor_text, back_text, undone_text, nothing_text, cursor_text, bytes_text, refused_text, failed_text}
 use Rattle.rls_session.specs.Sessions.{by_parts}
 
 -- what holds of an answer

@@ -7,16 +7,11 @@ use Rattle.rls_report.specs.declared.failures.Failure.TheVariants.{NoCommand, Co
 use Rattle.rls_seen.specs.Seen.{Seen}
 use Rattle.rls_stages.specs.declared.errors.OpenError.{OpenError}
 use Rattle.rls_stages.specs.declared.errors.OpenError.TheVariants as opening
-use Rattle.rls_stages.specs.declared.errors.WorkError.{WorkError}
-use Rattle.rls_stages.specs.declared.errors.WorkError.TheVariants as work
 use Rattle.rls_stages.specs.Calls.{HasLoaded}
-use Rattle.rls_stages.specs.Errors.{of_open, of_work}
+use Rattle.rls_stages.specs.Errors.{of_open}
 use Rattle.rls_stages.specs.KeptFile.{IsReadBack, bytes_over}
 use Rattle.rls_stages.proofs.Statuses.{apart, not_failure, not_keeper}
-use Rattle.rls_session.specs.declared.answering.AnswerError.{AnswerError}
-use Rattle.rls_session.specs.declared.answering.AnswerError.TheVariants.{SinkFault}
-use Rattle.rls_session.specs.Answering.{of_answer}
-use Rattle.rls_session.specs.Calls.{AreAllFilesOf, AreDue, Calls, CallsNothing, FailsToLoad, HasSaved, HasServed, IsFailedOf, IsFileOf, IsStatusAfter, Loads, Stores, StoresOnce, no_stores, tried}
+use Rattle.rls_session.specs.Calls.{AreAllFilesOf, AreDue, Calls, CallsNothing, FailsToLoad, HasServed, IsFailedOf, IsFileOf, IsStatusAfter, Loads, Stores, no_stores, tried}
 use Rattle.rls_session.specs.Due.{Due}
 use Rattle.rls_session.specs.Endings.{IsStatusOf}
 

@@ -1,23 +1,21 @@
 -- What comes next, by what waits.
-use Rattle.std.proofs.Common.{◌≡◌, ◌∙◌, ◌+◌, ◌<◌, ◌≤◌, ℕ, Bool, true, false, cond, ltb, leb, List, [], ◌++◌, length, take, drop, Option, Some, None, IfSome, IsTrue, refl, sym, ap, subst, arith, length-append}
+use Rattle.std.proofs.Common.{◌≡◌, ◌∙◌, ◌+◌, ◌<◌, ◌≤◌, ℕ, Bool, true, false, ltb, leb, List, [], ◌++◌, length, take, drop, Option, Some, None, IfSome, IsTrue, refl, sym, ap, subst, arith, length-append}
 use Rattle.std.specs.Prelude.{min}
 use Rattle.std.specs.List.{position_or_len, before_first}
 use Rattle.std.proofs.lemmas.Bool.Decides.{nat_tests}
 use Rattle.std.proofs.lemmas.List.{append-nil, take-append-le, drop-append-le}
 use Rattle.rls_ident.specs.declared.limits.TheConstants.{INPUT_BYTES}
-use Rattle.rls_codec.specs.Reading.{message_of}
 use Rattle.rls_io.specs.Device.{Keeps}
 use Rattle.rls_script.specs.Scripts.{is_line_feed}
 use Rattle.rls_script.proofs.LineEnds.{position_or_len_le}
 use Rattle.rls_session.specs.declared.orders.Order.{Order}
 use Rattle.rls_session.specs.declared.orders.Order.TheVariants.{Bad, Take}
 use Rattle.rls_session.specs.Answering.{HasAll, IsAnswered, IsNear, IsNext, IsPast, IsReplied}
-use Rattle.rls_session.specs.Answers.{Kind, Sitting, answer, done, take_told}
 use Rattle.rls_session.specs.Intake as intake
 use Rattle.rls_session.specs.Intake.{IntakeSeen, to_come, KnowsEnd, TellsEnd}
 use Rattle.rls_session.specs.Orders.{order_of}
-use Rattle.rls_session.specs.Replies.{bad_text}
 use Rattle.rls_session.specs.Requests.{Cut, Does, Takes, line_size, cut_after}
+use Rattle.rls_session.proofs.Courses.{Answers}
 use Rattle.rls_session.proofs.Positions.{in_front, position_more}
 
 -- ---- a line
@@ -96,29 +94,27 @@ found_order a0 a b (Some xs) (Some rest) n size ws line order keeps used e few f
 
 -- ---- what follows a line
 
-pub message_replied : {X : Type 0} (K : Kind X) (d e : Sitting X) (a0 a b : IntakeSeen) (x0 y : Option (List ℕ)) (n : ℕ) (ws front reply : List ℕ) → Keeps (to_come a0 x0) (to_come a y) → a.used ≡ a0.used → n ≤ length a.waiting → ws ≡ a.waiting → front ≡ take n ws
-    → IsAnswered (take_told K d (message_of front)) reply e → b.waiting ≡ drop n a.waiting → b.used ≡ a.used + n → KnowsEnd a0 x0 → IfSome (to_come a0 x0) (λ bytes. IsReplied (answer K d) bytes (Take n) reply e a0 b y)
-unfolding answer
-message_replied K d e a0 a b None y n ws front reply keeps used there whole is said waits uses known = tt
-message_replied K d e a0 a b (Some xs) None n ws front reply keeps used there whole is said waits uses known = absurd (cc)
-message_replied K d e a0 a b (Some xs) (Some rest) n ws front reply keeps used there whole is said waits uses known =
+pub message_replied : {S : Type 0} (answer : Answers S) (d e : S) (a0 a b : IntakeSeen) (x0 y : Option (List ℕ)) (n : ℕ) (ws front reply : List ℕ) → Keeps (to_come a0 x0) (to_come a y) → a.used ≡ a0.used → n ≤ length a.waiting → ws ≡ a.waiting → front ≡ take n ws
+    → IsAnswered (answer d (Takes front)) reply e → b.waiting ≡ drop n a.waiting → b.used ≡ a.used + n → KnowsEnd a0 x0 → IfSome (to_come a0 x0) (λ bytes. IsReplied (answer d) bytes (Take n) reply e a0 b y)
+message_replied answer d e a0 a b None y n ws front reply keeps used there whole is said waits uses known = tt
+message_replied answer d e a0 a b (Some xs) None n ws front reply keeps used there whole is said waits uses known = absurd (cc)
+message_replied answer d e a0 a b (Some xs) (Some rest) n ws front reply keeps used there whole is said waits uses known =
     let bytes = a0.waiting ++ xs in
     let split : a.waiting ++ rest ≡ bytes = cc in
     let test : leb n (length bytes) ≡ true = let l = ap length split in let k = length-append a.waiting rest in let h : n ≤ length bytes = omega arith in grind (arith, nat_tests) in
     let first : front ≡ take n bytes = is ∙ ap (take n) whole ∙ sym (take-append-le n a.waiting rest there) ∙ ap (take n) split in
     let left : b.waiting ++ rest ≡ drop n bytes = ap (λ (l : List ℕ). l ++ rest) waits ∙ sym (drop-append-le n a.waiting rest there) ∙ ap (drop n) split in
     record {
-      answered = rw test (subst (λ (m : List ℕ). IsAnswered (take_told K d (message_of m)) reply e) first said);
+      answered = rw test (subst (λ (m : List ℕ). IsAnswered (answer d (Takes m)) reply e) first said);
       whole = λ going. let l = ap length split in let k = length-append a.waiting rest in omega arith;
       past = rw test (record { rest = ap (λ (l : List ℕ). Some l) left; used = uses ∙ ap (λ k. k + n) used });
     }
 
-pub bad_replied : {X : Type 0} (K : Kind X) (d e : Sitting X) (a0 a b : IntakeSeen) (x0 y : Option (List ℕ)) (n k : ℕ) (reply : List ℕ) → Keeps (to_come a0 x0) (to_come a y) → a.used ≡ a0.used → length a.waiting < n → TellsEnd a0 x0 y → k ≡ length a.waiting
-    → reply ≡ bad_text → e ≡ d → b.waiting ≡ drop k a.waiting → b.used ≡ a.used + k → IsTrue a.ended → b.ended ≡ a.ended → KnowsEnd a0 x0 → IfSome (to_come a0 x0) (λ bytes. IsReplied (answer K d) bytes (Take n) reply e a0 b y)
-unfolding answer
-bad_replied K d e a0 a b None y n k reply keeps used short ends all said same waits uses over end known = tt
-bad_replied K d e a0 a b (Some xs) None n k reply keeps used short ends all said same waits uses over end known = absurd (cc)
-bad_replied K d e a0 a b (Some xs) (Some rest) n k reply keeps used short ends all said same waits uses over end known =
+pub bad_replied : {S : Type 0} (answer : Answers S) (d e : S) (a0 a b : IntakeSeen) (x0 y : Option (List ℕ)) (n k : ℕ) (reply : List ℕ) → Keeps (to_come a0 x0) (to_come a y) → a.used ≡ a0.used → length a.waiting < n → TellsEnd a0 x0 y → k ≡ length a.waiting
+    → IsAnswered (answer d (Does Bad)) reply e → b.waiting ≡ drop k a.waiting → b.used ≡ a.used + k → IsTrue a.ended → b.ended ≡ a.ended → KnowsEnd a0 x0 → IfSome (to_come a0 x0) (λ bytes. IsReplied (answer d) bytes (Take n) reply e a0 b y)
+bad_replied answer d e a0 a b None y n k reply keeps used short ends all said waits uses over end known = tt
+bad_replied answer d e a0 a b (Some xs) None n k reply keeps used short ends all said waits uses over end known = absurd (cc)
+bad_replied answer d e a0 a b (Some xs) (Some rest) n k reply keeps used short ends all said waits uses over end known =
     let bytes = a0.waiting ++ xs in
     let split : a.waiting ++ rest ≡ bytes = cc in
     let none : rest ≡ [] = ends known in
@@ -128,7 +124,7 @@ bad_replied K d e a0 a b (Some xs) (Some rest) n k reply keeps used short ends a
     let left : b.waiting ++ rest ≡ drop (length bytes) bytes =
     ap (λ (l : List ℕ). b.waiting ++ l) none ∙ append-nil b.waiting ∙ waits ∙ ap (drop k) alone ∙ ap (λ i. drop i bytes) len in
     record {
-      answered = rw test (record { reply_is = said; state_is = same });
+      answered = rw test said;
       whole = λ going. absurd (true_not_false (sym over ∙ (sym end ∙ going)));
       past = rw test (record { rest = ap (λ (l : List ℕ). Some l) left; used = uses ∙ ap (λ i. i + k) used ∙ ap (λ i. a0.used + i) len });
     }
@@ -141,14 +137,13 @@ has_all : (order : Order) (bytes : List ℕ) → ((n : ℕ) → order ≡ Take n
 has_all (Take n) bytes other = absurd (other n refl)
 has_all order bytes other = tt
 
-pub order_replied : {X : Type 0} (K : Kind X) (d e : Sitting X) (a : IntakeSeen) (x : Option (List ℕ)) (order : Order) (reply : List ℕ) → ((n : ℕ) → order ≡ Take n → ⊥) → IsAnswered (done K d order) reply e
-    → KnowsEnd a x → IfSome (to_come a x) (λ bytes. IsReplied (answer K d) bytes order reply e a a x)
-unfolding answer
-order_replied K d e a None order reply other said known = tt
-order_replied K d e a (Some xs) order reply other said known =
+pub order_replied : {S : Type 0} (answer : Answers S) (d e : S) (a : IntakeSeen) (x : Option (List ℕ)) (order : Order) (reply : List ℕ) → ((n : ℕ) → order ≡ Take n → ⊥) → IsAnswered (answer d (Does order)) reply e
+    → KnowsEnd a x → IfSome (to_come a x) (λ bytes. IsReplied (answer d) bytes order reply e a a x)
+order_replied answer d e a None order reply other said known = tt
+order_replied answer d e a (Some xs) order reply other said known =
     let alone = cut_alone order (a.waiting ++ xs) other in
     record {
-      answered = subst (λ (c : Cut). IsAnswered (answer K d c.request) reply e) (sym alone) said;
+      answered = subst (λ (c : Cut). IsAnswered (answer d c.request) reply e) (sym alone) said;
       whole = λ going. has_all order (a.waiting ++ xs) other;
       past = subst (λ (c : Cut). IsPast (a.waiting ++ xs) c.size a a (Some xs)) (sym alone) (record { rest = refl; used = omega arith });
     }

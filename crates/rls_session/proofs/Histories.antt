@@ -19,15 +19,16 @@ use Rattle.rls_stages.specs.Endings.{IsFault, IsPart, EndsWith}
 use Rattle.rls_stages.specs.KeptFile.{IsFileFor, IsReadBack, StandsIn, bytes_over, loaded, replica_in, saved}
 use Rattle.rls_stages.proofs.Kept.{WithinOrPast, within_or_past}
 use Rattle.rls_stages.proofs.Files.{opened, stands_stored}
-use Rattle.rls_session.specs.Answers.{Sitting, answer, resumed, sitting_at}
-use Rattle.rls_session.specs.Courses.{Course, course_of}
+use Rattle.rls_session.specs.Answers.{Sitting, sitting_at}
+use Rattle.rls_session.specs.Courses.{Course}
 use Rattle.rls_session.specs.Due.{Due, due, due_of, due_on, ending_status, stops}
 use Rattle.rls_session.specs.Endings.{ByReplies, Ends, EndsIn, EndsOn, FailsAt, IsKept, IsTooLong, Serves, ServesIn, ServesOn}
 use Rattle.rls_session.specs.Replies.{saved_text}
 use Rattle.rls_session.specs.Sessions.{by_history, session, session_in}
 use Rattle.rls_session.proofs.AlikeSittings.{IsAlike}
 use Rattle.rls_session.proofs.Alike.{AreSameCourses, sessions_alike}
-use Rattle.rls_session.proofs.Courses.{IsSameCourse, courses_begin}
+use Rattle.rls_session.proofs.Courses.{IsSameCourse}
+use Rattle.rls_session.proofs.Seats.{later_courses, session_begins}
 use Rattle.rls_session.proofs.Served.{part_all}
 
 saved_or_long : (s : Seen) → (saved s ≡ Ok s) ⊎ ((FILE_BYTES < length (bytes_over s)) × (saved s ≡ Err TooLarge))
@@ -153,7 +154,7 @@ all_serve n (c ∷ cs) (f ∷ fs) bytes new_file old new same e = courses_serve 
 -- the kept file is too long
 long_serves : (n : ℕ) (t : State) (bytes given : List ℕ) (kept : Option (List ℕ)) (new_file : Option (Option (List ℕ))) (old new : Option (List ℕ)) → FILE_BYTES < length bytes → EndsIn (stops TooLarge) n (Some kept) new_file old new
     → Serves n bytes (session_in t given) new_file old new
-long_serves n t bytes given kept new_file old new h e = subst (λ (cs : List (Course (Sitting State))). Serves n bytes cs new_file old new) (sym (courses_begin (answer by_history) (resumed by_history) (sitting_at t) given)) (serves_on _ (map (course_of (answer by_history)) _))
+long_serves n t bytes given kept new_file old new h e = subst (λ (cs : List (Course (Sitting State))). Serves n bytes cs new_file old new) (sym (session_begins by_history (sitting_at t) given)) (serves_on _ (later_courses by_history (sitting_at t) given))
   where
     status : (c : Course (Sitting State)) → (n ≡ 11) ⊎ IsFault n → EndsWith n 0 (IsTooLong bytes c)
     status c (inl st) = inr (inr (st, inl h))

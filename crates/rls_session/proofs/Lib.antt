@@ -24,5 +24,11 @@ pub mod AlikeSittings
 pub mod AlikeSteps
 pub mod Sides
 pub mod Agreeing
+pub mod Fitting
+pub mod Drafting
+pub mod AlikeSeats
+pub mod Shown
 pub mod Alike
 pub mod Histories
+pub mod Drafts
+pub mod Seats

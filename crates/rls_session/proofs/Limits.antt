@@ -8,17 +8,18 @@ use Rattle.std.proofs.lemmas.Grind.{common_steps}
 use Rattle.std.proofs.lemmas.List.{take-append-le}
 use Rattle.std.proofs.lemmas.Slice.Eq.{bytes_eq-Decides}
 use Rattle.rls_script.proofs.LineEnds.{position_or_len_le}
-use Rattle.rls_script.specs.Scripts.{is_line_feed, line_of_text, number_of, parts_of}
+use Rattle.rls_script.specs.Scripts.{insertion_of, is_line_feed, line_of_text, number_of, parts_of}
 use Rattle.rls_script.specs.declared.lines.Line.{Line}
+use Rattle.rls_script.specs.declared.lines.Line.TheVariants as lines
 use Rattle.rls_anchor.specs.declared.anchor.Anchor.{Anchor}
 use Rattle.rls_places.specs.Words.{place_of}
 use Rattle.rls_session.specs.declared.orders.Side.{Side}
 use Rattle.rls_session.specs.declared.orders.Side.TheVariants.{Before, After}
 use Rattle.rls_session.specs.declared.orders.Order.{Order}
-use Rattle.rls_session.specs.declared.orders.Order.TheVariants.{Edit, Place, Spell, Locate, Point, Take, Send, Store, Tell, Quit, Bad}
+use Rattle.rls_session.specs.declared.orders.Order.TheVariants.{Edit, Place, Spell, Locate, Point, Take, Send, Store, Tell, Version, Quit, Bad}
 use Rattle.rls_session.specs.Answering.{HasAll, LacksPart}
 use Rattle.rls_session.specs.Courses.{Course, go_on, course}
-use Rattle.rls_session.specs.Orders.{order_or_bad, member_of, order_of_letter, order_of_parts, order_of_words, order_of, switch_of, cursor_of, point_by}
+use Rattle.rls_session.specs.Orders.{change_at, change_by, change_of, change_parts, order_or_bad, member_of, order_of_letter, order_of_parts, order_of_words, order_of, switch_of, cursor_of, point_by, version_of}
 use Rattle.rls_session.specs.Requests.{Request, Does, Takes, Cut, line_size, cut_after, with_line, cut}
 use Rattle.rls_session.proofs.Courses.{Answers, IsPlain, course_begins}
 use Rattle.rls_session.proofs.Positions.{clear_then, in_front, position_front}
@@ -96,21 +97,42 @@ tell_halts None (Quits e) = cc
 tell_halts (Some x) (Stores e) = cc
 tell_halts (Some x) (Quits e) = cc
 
+version_halts : (n : ℕ) → IsHalt (Version n) → ⊥
+version_halts n (Stores e) = cc
+version_halts n (Quits e) = cc
+
+bad_halts : IsHalt Bad → ⊥
+bad_halts (Stores e) = cc
+bad_halts (Quits e) = cc
+
+change_halts : (others : List ℕ) → IsHalt (change_of others) → ⊥
+change_halts others = go (parts_of others)
+  where
+    by : (at : ℕ) (l : Option Line) → IsHalt (change_by at l) → ⊥
+    by at (Some (lines.Insert n cs)) (Stores e) = cc
+    by at (Some (lines.Insert n cs)) (Quits e) = cc
+    by at l h = bad_halts h
+
+    at_place : (rest : List ℕ) (n : Option ℕ) → IsHalt (change_at rest n) → ⊥
+    at_place rest None h = bad_halts h
+    at_place rest (Some at) h = by at (insertion_of rest) h
+
+    go : (p : Option (List ℕ × List ℕ)) → IsHalt (change_parts p) → ⊥
+    go None h = bad_halts h
+    go (Some x) h = at_place x.1 (number_of x.0) h
+
 parts_halt : (bs word others : List ℕ) → IsHalt (order_of_parts bs word others) → ⊥
 parts_halt bs word others h =
-    skips (bytes_eq word (codes "k")) _ _ ⊥ (point_halts Before others (parts_of others)) (skips (bytes_eq word (codes "j")) _ _ ⊥ (point_halts After others (parts_of others)) (skips (bytes_eq word (codes "p")) _ _ ⊥ (any_halts Place place_halts (cursor_of others)) (
-    skips (bytes_eq word (codes "a")) _ _ ⊥ (any_halts Spell spell_halts (number_of others)) (skips (bytes_eq word (codes "l")) _ _ ⊥ (any_halts Locate locate_halts (place_of others)) (skips (bytes_eq word (codes "m")) _ _ ⊥ (take_halts (number_of others)) (skips (bytes_eq word (codes "s")) _ _ ⊥ (send_halts (member_of others)) (skips (bytes_eq word (codes "c")) _ _ ⊥ (tell_halts (switch_of others)) (edit_halts (line_of_text bs))))))))) h
+    skips (bytes_eq word (codes "e")) _ _ ⊥ (change_halts others) (skips (bytes_eq word (codes "k")) _ _ ⊥ (point_halts Before others (parts_of others)) (skips (bytes_eq word (codes "j")) _ _ ⊥ (point_halts After others (parts_of others)) (skips (bytes_eq word (codes "p")) _ _ ⊥ (any_halts Place place_halts (cursor_of others)) (
+    skips (bytes_eq word (codes "a")) _ _ ⊥ (any_halts Spell spell_halts (number_of others)) (skips (bytes_eq word (codes "l")) _ _ ⊥ (any_halts Locate locate_halts (place_of others)) (skips (bytes_eq word (codes "m")) _ _ ⊥ (take_halts (number_of others)) (skips (bytes_eq word (codes "s")) _ _ ⊥ (send_halts (member_of others)) (skips (bytes_eq word (codes "c")) _ _ ⊥ (tell_halts (switch_of others)) (
+    skips (bytes_eq word (codes "v")) _ _ ⊥ (any_halts Version version_halts (version_of others)) (edit_halts (line_of_text bs))))))))))) h
 
 halt_letter : (bs : List ℕ) → IsHalt (order_of bs) → length bs ≡ 1
 unfolding order_of
 halt_letter bs h = go (is_utf8 bs) (parts_of bs) h
   where
-    bad : IsHalt Bad → ⊥
-    bad (Stores e) = cc
-    bad (Quits e) = cc
-
     go : (b : Bool) (p : Option (List ℕ × List ℕ)) → IsHalt (cond b (order_of_words bs p) Bad) → length bs ≡ 1
-    go false p h = absurd (bad h)
+    go false p h = absurd (bad_halts h)
     go true None h = letter_halts bs h
     go true (Some x) h = absurd (parts_halt bs x.0 x.1 h)
 

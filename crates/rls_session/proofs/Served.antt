@@ -1,10 +1,10 @@
 -- How a session ends, from its parts.
-use Rattle.std.proofs.Common.{◌≡◌, ◌≢◌, ◌∙◌, ◌⊎◌, ◌<◌, ◌≤◌, ℕ, Bool, true, false, eqb, ltb, List, [], ◌∷◌, ◌++◌, length, take, Option, Some, None, IfSome, IfErr, IsErr, OnOk, Result, Ok, Err, refl, sym, ap, subst, arith, inl, inr, append_assoc, length-append}
-use Rattle.std.specs.Prelude.{map, option_map, if◌then◌else◌}
+use Rattle.std.proofs.Common.{◌≡◌, ◌≢◌, ◌∙◌, ◌⊎◌, ◌<◌, ◌≤◌, ℕ, true, false, eqb, ltb, List, [], ◌∷◌, ◌++◌, length, take, Option, Some, None, IfSome, IfErr, IsErr, OnOk, Result, Ok, Err, refl, sym, ap, subst, arith, inl, inr, append_assoc, length-append}
+use Rattle.std.specs.Prelude.{map, option_map}
 use Rattle.std.proofs.lemmas.Bool.Decides.{nat_tests}
 use Rattle.std.proofs.lemmas.Grind.{common_steps}
 use Rattle.std.proofs.lemmas.List.{append-nil, length-take-le}
-use Rattle.rls_ident.specs.declared.limits.TheConstants.{FILE_BYTES, INPUT_BYTES}
+use Rattle.rls_ident.specs.declared.limits.TheConstants.{INPUT_BYTES}
 use Rattle.rls_io.specs.Device.{Appends, IsCutShort, Keeps, Rose, Stores}
 use Rattle.rls_seen.specs.Seen.{Seen}
 use Rattle.rls_report.specs.declared.failures.CommandError.{CommandError}
@@ -18,20 +18,20 @@ use Rattle.rls_stages.specs.declared.errors.OpenError.TheVariants as opening
 use Rattle.rls_stages.specs.declared.errors.WorkError.{WorkError}
 use Rattle.rls_stages.specs.declared.errors.WorkError.TheVariants as work
 use Rattle.rls_stages.specs.Endings.{IsFault, IsPart, Writes}
-use Rattle.rls_stages.specs.Errors.{GivesError, IsOfFile, IsOpenError, of_open, of_work}
+use Rattle.rls_stages.specs.Errors.{GivesError, IsOpenError, of_open, of_work}
 use Rattle.rls_stages.specs.KeptFile.{IsReadBack, IsUsable, Stays, bytes_over, loaded, replica_in, saved}
 use Rattle.rls_stages.proofs.Kept.{keeps_on, stays_on, stays_so}
 use Rattle.rls_stages.proofs.Statuses.{apart, failure_at_7, failure_at_8, failure_at_9, failure_line_told, not_error, not_failure}
 use Rattle.rls_session.specs.declared.answering.AnswerError.{AnswerError}
 use Rattle.rls_session.specs.declared.answering.AnswerError.TheVariants.{SourceFault, SinkFault, TooLarge, OutOfMemory}
 use Rattle.rls_session.specs.Answering.{of_answer}
-use Rattle.rls_session.specs.Answers.{Sitting, answer, resumed, sitting_at}
+use Rattle.rls_session.specs.Answers.{Sitting, sitting_at}
 use Rattle.rls_session.specs.Courses.{Course}
 use Rattle.rls_session.specs.Due.{Due, due, due_of, due_on, dues_line, ending_status, found_in, line_at, line_or, stops}
 use Rattle.rls_session.specs.Endings.{ByReplies, Ends, EndsIn, EndsNear, EndsOn, FailsAt, HasAllOf, IsKept, IsSessionsOwn, IsSessionStatus, IsStatusOf, Leaves, LeavesIn, LeavesOn, Saves, line_of}
 use Rattle.rls_session.specs.Replies.{saved_text}
 use Rattle.rls_session.specs.Sessions.{by_parts}
-use Rattle.rls_session.proofs.Courses.{courses_begin}
+use Rattle.rls_session.proofs.Seats.{session_begins}
 
 -- ---- lists and files
 
@@ -127,7 +127,7 @@ leaves_first f d (x ∷ ds) file new_file old new h = inl (refl, h)
 for_each : (found : Option (Result Seen CommandError)) (left : Option (List ℕ)) (P : List Due → Type 0) → ((d : Due) (ds : List Due) → P (d ∷ ds)) → IfSome (due_on found left) P
 for_each None left P f = tt
 for_each (Some (Ok s)) None P f = tt
-for_each (Some (Ok s)) (Some given) P f = subst P (sym (ap (map due_of) (courses_begin (answer by_parts) (resumed by_parts) (sitting_at s) given))) (f _ _)
+for_each (Some (Ok s)) (Some given) P f = subst P (sym (ap (map due_of) (session_begins by_parts (sitting_at s) given))) (f _ _)
 for_each (Some (Err e)) left P f = f (stops e) []
 
 -- the file can't be used

@@ -15,24 +15,26 @@ use Rattle.rls_stages.proofs.Kept.{stays_on, stays_so}
 use Rattle.rls_session.specs.declared.answering.AnswerError.{AnswerError}
 use Rattle.rls_session.specs.declared.answering.AnswerError.TheVariants.{SourceFault, SinkFault, TooLarge, OutOfMemory}
 use Rattle.rls_session.specs.Answering.{IsDone, IsFront, IsNear, IsPaused, IsPrompt, of_answer}
-use Rattle.rls_session.specs.Answers.{Sitting, answer, resumed, session_by}
+use Rattle.rls_session.specs.Answers.{Sitting, resumed}
 use Rattle.rls_session.specs.Calls.{AreAllFilesOf, AreDue, AreFilesOf, HasSaved, HasServed, IsFailedOf, IsFileOf, no_stores, tried}
-use Rattle.rls_session.specs.Courses.{Course, Stretch, course, course_of, holds, replies_in, used_in}
+use Rattle.rls_session.specs.Courses.{Course, Stretch, course, courses, holds, replies_in, used_in}
 use Rattle.rls_session.specs.Devices.{Devices}
 use Rattle.rls_session.specs.Due.{Due, due_from, due_of}
 use Rattle.rls_session.specs.Endings.{IsDoneTo, IsKept, IsSessionsOwn, Leaves, LeavesIn, Saves}
 use Rattle.rls_session.specs.Intake.{IntakeSeen, come_at, known_come}
 use Rattle.rls_session.specs.Replies.{saved_text}
-use Rattle.rls_session.specs.Sent.{SendMessages, SendsMessage, SendsMessages}
+use Rattle.rls_session.specs.Seats.{Seat, at_work, closed, course_at, respond, resumed_seat, seated, session_by}
+use Rattle.rls_session.specs.Sent.{SendMessages, SendsFrom, SendsMessages}
 use Rattle.rls_session.specs.Serving.{GoesOn, HasGoneOn, SaveEnds, StageEnds, file_after}
 use Rattle.rls_session.specs.Sessions.{by_parts}
-use Rattle.rls_session.proofs.Courses.{courses_begin, courses_on, later, later_is, later_none, replies_on_is, stretches_begin, used_first, used_on_is}
-use Rattle.rls_session.proofs.Served.{answer_failed, answer_leaves, answered_own, appends_more, ending_is, keeps_same, part_none, rose_later, save_leaves}
+use Rattle.rls_session.proofs.Courses.{later_is, later_none, stretches_begin}
+use Rattle.rls_session.proofs.Seats.{later_courses, none_later as no_courses, prompt_closed, session_begins, session_on, session_replies, session_used, session_used_first}
+use Rattle.rls_session.proofs.Served.{answer_failed, answer_leaves, answered_own, appends_more, ending_is, keeps_same, part_all, part_none, rose_later, save_leaves}
 use Rattle.rls_session.proofs.Called.{no_files}
 
 -- the course from a sitting over an input
 abbrev here : Sitting Seen → List ℕ → Course (Sitting Seen)
-here d given = course (answer by_parts) d given
+here d given = course_at by_parts d given
 
 abbrev rest_of : Sitting Seen → List ℕ → List ℕ
 rest_of d given = drop (suc (here d given).used) given
@@ -40,15 +42,15 @@ rest_of d given = drop (suc (here d given).used) given
 -- ---- what is called for
 
 later_dues : Sitting Seen → List ℕ → List Due
-later_dues d given = map due_of (map (course_of (answer by_parts)) (later (answer by_parts) (resumed by_parts) d given))
+later_dues d given = map due_of (later_courses by_parts d given)
 
 dues_begin : (d : Sitting Seen) (given : List ℕ) → map due_of (session_by by_parts d given) ≡ due_of (here d given) ∷ later_dues d given
 unfolding later_dues
-dues_begin d given = ap (map due_of) (courses_begin (answer by_parts) (resumed by_parts) d given)
+dues_begin d given = ap (map due_of) (session_begins by_parts d given)
 
 dues_end : (d : Sitting Seen) (given : List ℕ) → (here d given).stores ≡ false → later_dues d given ≡ []
 unfolding later_dues
-dues_end d given e = ap (λ (l : List (Stretch (Sitting Seen))). map due_of (map (course_of (answer by_parts)) l)) (later_none (answer by_parts) (resumed by_parts) d given e)
+dues_end d given e = ap (map due_of) (no_courses by_parts d given e)
 
 -- what holds of the first and of those after it holds of all
 on_dues : (d : Sitting Seen) (come : Option (List ℕ)) (P : List Due → Type 0) → IfSome come (λ given. P (due_of (here d given) ∷ later_dues d given)) → IfSome (due_from d come) P
@@ -152,7 +154,7 @@ saved_left {K} store ds saves r k l file new_file mid new called saves_so keeps 
 near_first : (d : Sitting Seen) (come left : Option (List ℕ)) → IfSome come (λ given. IsNear given left (here d given).used) → IfSome come (λ given. IsNear given left (used_in (session_by by_parts d given)))
 near_first d None left h = tt
 near_first d (Some given) None h = tt
-near_first d (Some given) (Some rest) h = let most = used_first (answer by_parts) (resumed by_parts) d given in omega (arith, h, most)
+near_first d (Some given) (Some rest) h = let most = session_used_first by_parts d given in omega (arith, h, most)
 
 -- answering failed
 pub answer_ends : {K : Type 0} (store : K → List ℕ → Bool → K → Type 0) (d : Sitting Seen) (come : Option (List ℕ)) (ended : Bool) (e : AnswerError) (f : Failure) (k : K) (file : Option (Option (List ℕ))) (left new_left old new : Option (List ℕ)) (keeper_faults in_faults new_in_faults out_faults new_out_faults : ℕ)
@@ -191,7 +193,7 @@ answer_ends {K} store d come ended e f k file left new_left old new keeper_fault
 pub save_ends : {K : Type 0} (store : K → List ℕ → Bool → K → Type 0) (d next : Sitting Seen) (come : Option (List ℕ)) (ended stores : Bool) (r : Result (Unit {0}) Failure) (s : Seen) (k l : K) (file new_file : Option (Option (List ℕ))) (left new_left old mid new : Option (List ℕ))
     (faults new_faults in_faults new_in_faults out_faults mid_out_faults new_out_faults : ℕ)
     → IfSome come (λ given. IsDone (here d given) stores next old mid) → s ≡ next.state → SaveEnds store s r k l file new_file faults new_faults mid new mid_out_faults new_out_faults → OnOk r (stores ≡ false)
-    → out_faults ≤ mid_out_faults → IfSome come (λ given. IsNear given new_left (here d given).used) → IfSome come (λ given. holds (answer by_parts) SendsMessage d given)
+    → out_faults ≤ mid_out_faults → IfSome come (λ given. IsNear given new_left (here d given).used) → IfSome come (λ given. holds (respond by_parts) SendsFrom (seated d) given)
     → StageEnds store d come ended r k l (record { file = file; left = left; told = old; keeper_faults = faults; input_faults = in_faults; output_faults = out_faults })
     (record { file = new_file; left = new_left; told = new; keeper_faults = new_faults; input_faults = new_in_faults; output_faults = new_out_faults })
 save_ends {K} store d next come ended stores r s k l file new_file left new_left old mid new faults new_faults in_faults new_in_faults out_faults mid_out_faults new_out_faults done at save last later near sent = record {
@@ -240,11 +242,35 @@ save_ends {K} store d next come ended stores r s k l file new_file left new_left
         go (Ok u) e one = subst (λ (ds : List Due). Leaves (Ok u) (due_of (here d given) ∷ ds) file new_file old new) (sym (none_later given h e)) one
         go (Err f) e one = leaves_err (Err f) (due_of (here d given)) (later_dues d given) file new_file old new refl one
 
-    messages : (r : Result (Unit {0}) Failure) (come : Option (List ℕ)) → IfSome come (λ given. IsDone (here d given) stores next old mid) → OnOk r (stores ≡ false) → IfSome come (λ given. holds (answer by_parts) SendsMessage d given) → OnOk r (IfSome come (SendsMessages d))
+    messages : (r : Result (Unit {0}) Failure) (come : Option (List ℕ)) → IfSome come (λ given. IsDone (here d given) stores next old mid) → OnOk r (stores ≡ false) → IfSome come (λ given. holds (respond by_parts) SendsFrom (seated d) given) → OnOk r (IfSome come (SendsMessages d))
     messages (Err f) come h e sent = tt
     messages (Ok u) None h e sent = tt
     messages (Ok u) (Some given) h e sent =
-        subst SendMessages (sym (stretches_begin (answer by_parts) (resumed by_parts) d given ∙ ap (λ (l : List (Stretch (Sitting Seen))). record { state = d; input = given } ∷ l) (later_none (answer by_parts) (resumed by_parts) d given (h.stores_is ∙ e)))) (sent, tt)
+        subst SendMessages (sym (stretches_begin (respond by_parts) (resumed_seat by_parts) (seated d) given ∙ ap (λ (l : List (Stretch (Seat Seen))). record { state = seated d; input = given } ∷ l) (later_none (respond by_parts) (resumed_seat by_parts) (seated d) given (h.stores_is ∙ e)))) (sent, tt)
+
+-- what was answered before the input was read on, as the session counts it
+pub prompt_by : (d : Sitting Seen) (come left old new : Option (List ℕ)) → IfSome come (λ given. IsPrompt (λ front. replies_in (courses (respond by_parts) (resumed_seat by_parts) (seated d) front)) given left old new)
+    → IfSome come (λ given. IsPrompt (λ front. replies_in (session_by by_parts d front)) given left old new)
+prompt_by d None left old new p = tt
+prompt_by d (Some given) left old new p = prompt_closed by_parts d given left old new p
+
+-- all was answered, but the draft that was left couldn't be made
+pub unmade_ends : {K : Type 0} (store : K → List ℕ → Bool → K → Type 0) (d : Sitting Seen) (b : Seat Seen) (come : Option (List ℕ)) (ended stores : Bool) (k : K) (file : Option (Option (List ℕ))) (left new_left old new : Option (List ℕ)) (keeper_faults in_faults new_in_faults out_faults new_out_faults : ℕ)
+    → IfSome come (λ given. IsDone (course (respond by_parts) (seated d) given) stores b old new) → IfSome come (λ given. IsNear given new_left (here d given).used)
+    → StageEnds store d come ended (Err (Fault Memory)) k k (record { file = file; left = left; told = old; keeper_faults = keeper_faults; input_faults = in_faults; output_faults = out_faults })
+    (record { file = file; left = new_left; told = new; keeper_faults = keeper_faults; input_faults = new_in_faults; output_faults = new_out_faults })
+unmade_ends store d b come ended stores k file left new_left old new keeper_faults in_faults new_in_faults out_faults new_out_faults done near =
+    answer_ends store d come ended OutOfMemory (Fault Memory) k file left new_left old new keeper_faults in_faults new_in_faults out_faults new_out_faults refl (λ e. cc) (λ e. cc) (parts come done) (λ e. cc) (λ e. cc) near (λ e. cc)
+  where
+    parts : (come : Option (List ℕ)) → IfSome come (λ given. IsDone (course (respond by_parts) (seated d) given) stores b old new) → IfSome come (λ given. IsPart old new (here d given).replies)
+    parts None h = tt
+    parts (Some given) h = part_all old new (here d given).replies h.written
+
+-- it could
+pub done_made : (d next : Sitting Seen) (b : Seat Seen) (come : Option (List ℕ)) (stores : Bool) (old new : Option (List ℕ)) → next ≡ at_work by_parts b
+    → IfSome come (λ given. IsDone (course (respond by_parts) (seated d) given) stores b old new) → IfSome come (λ given. IsDone (here d given) stores next old new)
+done_made d next b None stores old new e h = tt
+done_made d next b (Some given) stores old new e h = record { state_is = ap (at_work by_parts) h.state_is ∙ sym e; stores_is = h.stores_is; within = h.within; written = h.written }
 
 -- nothing was done
 pub memory_ends : {K : Type 0} (store : K → List ℕ → Bool → K → Type 0) (d : Sitting Seen) (come : Option (List ℕ)) (ended : Bool) (k : K) (file : Option (Option (List ℕ))) (left old : Option (List ℕ)) (keeper_faults in_faults out_faults : ℕ) → IfSome come (λ given. IsNear given left (here d given).used)
@@ -263,7 +289,7 @@ pub saved_on : {K : Type 0} (store : K → List ℕ → Bool → K → Type 0) (
     (faults new_faults in_faults new_in_faults out_faults mid_out_faults new_out_faults : ℕ)
     → IfSome come (λ given. IsDone (here d given) true next old mid) → s ≡ next.state → SaveEnds store s (Ok tt) k l file new_file faults new_faults mid new mid_out_faults new_out_faults
     → after ≡ resumed by_parts next → out_faults ≤ mid_out_faults → in_faults ≤ new_in_faults → (IsTrue ended → IsTrue next_ended)
-    → IfSome come (λ given. (next_come ≡ Some (rest_of d given)) × (IsFalse next_ended → IsFront (answer by_parts) d given)) → IfSome come (λ given. holds (answer by_parts) SendsMessage d given)
+    → IfSome come (λ given. (next_come ≡ Some (rest_of d given)) × (IsFalse next_ended → IsFront (respond by_parts) (seated d) given)) → IfSome come (λ given. holds (respond by_parts) SendsFrom (seated d) given)
     → HasGoneOn store d come ended after next_come next_ended k l (record { file = file; left = left; told = old; keeper_faults = faults; input_faults = in_faults; output_faults = out_faults })
     (record { file = new_file; left = new_left; told = new; keeper_faults = new_faults; input_faults = new_in_faults; output_faults = new_out_faults })
 saved_on {K} store d next after come next_come ended next_ended s k l file new_file left new_left old mid new faults new_faults in_faults new_in_faults out_faults mid_out_faults new_out_faults done at save resumes later in_later stays paused sent =
@@ -279,7 +305,7 @@ saved_on {K} store d next after come next_come ended next_ended s k l file new_f
       on = go come done paused sent;
     }
   where
-    go : (come : Option (List ℕ)) → IfSome come (λ given. IsDone (here d given) true next old mid) → IfSome come (λ given. (next_come ≡ Some (rest_of d given)) × (IsFalse next_ended → IsFront (answer by_parts) d given)) → IfSome come (λ given. holds (answer by_parts) SendsMessage d given)
+    go : (come : Option (List ℕ)) → IfSome come (λ given. IsDone (here d given) true next old mid) → IfSome come (λ given. (next_come ≡ Some (rest_of d given)) × (IsFalse next_ended → IsFront (respond by_parts) (seated d) given)) → IfSome come (λ given. holds (respond by_parts) SendsFrom (seated d) given)
         → IfSome come (λ given. GoesOn d given after next_come next_ended (save.calls).0 (record { file = file; left = left; told = old; keeper_faults = faults; input_faults = in_faults; output_faults = out_faults })
         (record { file = new_file; left = new_left; told = new; keeper_faults = new_faults; input_faults = new_in_faults; output_faults = new_out_faults }))
     go None h p t = tt
@@ -306,7 +332,7 @@ drop_all xs ys n e = subst (λ (k : ℕ). drop k (xs ++ ys) ≡ ys) e (go xs)
     go [] = refl
     go (x ∷ xs) = go xs
 
-prompt_on : (d next : Sitting Seen) (given : List ℕ) (next_come : Option (List ℕ)) (next_ended : Bool) (bytes : List ℕ) (old mid : Devices) (new_left new_told : Option (List ℕ)) → GoesOn d given next next_come next_ended bytes old mid → IsFront (answer by_parts) d given
+prompt_on : (d next : Sitting Seen) (given : List ℕ) (next_come : Option (List ℕ)) (next_ended : Bool) (bytes : List ℕ) (old mid : Devices) (new_left new_told : Option (List ℕ)) → GoesOn d given next next_come next_ended bytes old mid → IsFront (respond by_parts) (seated d) given
     → IsPrompt (λ front. replies_in (session_by by_parts next front)) (rest_of d given) new_left mid.told new_told → IsPrompt (λ front. replies_in (session_by by_parts d front)) given new_left old.told new_told
 prompt_on d next given next_come next_ended bytes old mid new_left new_told g f p = record {
   front = f.front ++ p.front;
@@ -320,18 +346,18 @@ prompt_on d next given next_come next_ended bytes old mid new_left new_told g f 
 }
   where
     past : drop (suc (here d (f.front ++ p.front)).used) (f.front ++ p.front) ≡ p.front
-    past = ap (λ (c : Course (Sitting Seen)). drop (suc c.used) (f.front ++ p.front)) (f.same p.front) ∙ drop_all f.front p.front (suc (here d given).used) f.size
+    past = ap (λ (c : Course (Seat Seen)). drop (suc c.used) (f.front ++ p.front)) (f.same p.front) ∙ drop_all f.front p.front (suc (here d given).used) f.size
 
     all : replies_in (session_by by_parts d (f.front ++ p.front)) ≡ (here d given).replies ++ (saved_text ++ replies_in (session_by by_parts next p.front))
     all =
-        replies_on_is (answer by_parts) (resumed by_parts) d (f.front ++ p.front) (ap (λ (c : Course (Sitting Seen)). c.stores) (f.same p.front) ∙ g.stores)
+        session_replies by_parts d (f.front ++ p.front) (ap (λ (c : Course (Seat Seen)). c.stores) (f.same p.front) ∙ g.stores)
         ∙ ap (λ (l : List ℕ). (here d (f.front ++ p.front)).replies ++ (saved_text ++ replies_in (session_by by_parts (resumed by_parts (here d (f.front ++ p.front)).state) l))) past
-        ∙ ap (λ (c : Course (Sitting Seen)). c.replies ++ (saved_text ++ replies_in (session_by by_parts (resumed by_parts c.state) p.front))) (f.same p.front)
+        ∙ ap (λ (c : Course (Seat Seen)). c.replies ++ (saved_text ++ replies_in (session_by by_parts (resumed by_parts (closed by_parts c).state) p.front))) (f.same p.front)
         ∙ ap (λ (n : Sitting Seen). (here d given).replies ++ (saved_text ++ replies_in (session_by by_parts n p.front))) (sym g.next_is)
 
 -- what follows the order to store is to come
-pub paused_on : (d : Sitting Seen) (come : Option (List ℕ)) (a b : IntakeSeen) (left : Option (List ℕ)) → IfSome come (λ given. IsPaused (answer by_parts) d given a left) → b.waiting ≡ a.waiting → b.ended ≡ a.ended
-    → IfSome come (λ given. (known_come b left ≡ Some (rest_of d given)) × (IsFalse b.ended → IsFront (answer by_parts) d given))
+pub paused_on : (d : Sitting Seen) (come : Option (List ℕ)) (a b : IntakeSeen) (left : Option (List ℕ)) → IfSome come (λ given. IsPaused (respond by_parts) (seated d) given a left) → b.waiting ≡ a.waiting → b.ended ≡ a.ended
+    → IfSome come (λ given. (known_come b left ≡ Some (rest_of d given)) × (IsFalse b.ended → IsFront (respond by_parts) (seated d) given))
 paused_on d None a b left h waiting ended = tt
 paused_on d (Some given) a b left h waiting ended = (ap (λ x. come_at x b.waiting left) ended ∙ ap (λ (l : List ℕ). come_at a.ended l left) waiting ∙ h.rest, λ going. h.fed (sym ended ∙ going))
 
@@ -396,7 +422,7 @@ goes_on {K} store d next come next_come ended next_ended r k m l old mid new on 
     -- what is called for, in the first and later
     dues : (given : List ℕ) → GoesOn d given next next_come next_ended on.bytes old mid → map due_of (session_by by_parts d given) ≡ due_of (here d given) ∷ map due_of (session_by by_parts next (rest_of d given))
     dues given g =
-        ap (map due_of) (courses_on (answer by_parts) (resumed by_parts) d given g.stores)
+        ap (map due_of) (session_on by_parts d given g.stores)
         ∙ ap (λ (n : Sitting Seen). due_of (here d given) ∷ map due_of (session_by by_parts n (rest_of d given))) (sym g.next_is)
 
     -- what is known of the later ones
@@ -427,7 +453,7 @@ goes_on {K} store d next come next_come ended next_ended r k m l old mid new on 
     near (Some given) g = at new.left (subst (λ (o : Option (List ℕ)). IfSome o (λ rest. IsNear rest new.left (used_in (session_by by_parts next rest)))) g.come_is h.near)
       where
         used : used_in (session_by by_parts d given) ≡ suc (here d given).used + used_in (session_by by_parts next (rest_of d given))
-        used = used_on_is (answer by_parts) (resumed by_parts) d given g.stores ∙ ap (λ (n : Sitting Seen). suc (here d given).used + used_in (session_by by_parts n (rest_of d given))) (sym g.next_is)
+        used = session_used by_parts d given g.stores ∙ ap (λ (n : Sitting Seen). suc (here d given).used + used_in (session_by by_parts n (rest_of d given))) (sym g.next_is)
 
         at : (left : Option (List ℕ)) → IsNear (rest_of d given) left (used_in (session_by by_parts next (rest_of d given))) → IsNear given left (used_in (session_by by_parts d given))
         at None n = tt
@@ -437,7 +463,7 @@ goes_on {K} store d next come next_come ended next_ended r k m l old mid new on 
     messages (Err f) come g a = tt
     messages (Ok u) None g a = tt
     messages (Ok u) (Some given) g a =
-        let both = stretches_begin (answer by_parts) (resumed by_parts) d given ∙ ap (λ (l : List (Stretch (Sitting Seen))). record { state = d; input = given } ∷ l) (later_is (answer by_parts) (resumed by_parts) d given g.stores) in
+        let both = stretches_begin (respond by_parts) (resumed_seat by_parts) (seated d) given ∙ ap (λ (l : List (Stretch (Seat Seen))). record { state = seated d; input = given } ∷ l) (later_is (respond by_parts) (resumed_seat by_parts) (seated d) given g.stores) in
         subst SendMessages (sym both) (g.sent, subst (λ (n : Sitting Seen). SendsMessages n (rest_of d given)) g.next_is (subst (λ (o : Option (List ℕ)). IfSome o (SendsMessages next)) g.come_is a))
 
     prompt : (come : Option (List ℕ)) → IfSome come (λ given. GoesOn d given next next_come next_ended on.bytes old mid) → IsFalse next_ended

@@ -1,10 +1,10 @@
 -- The place that is told as a word is found by that word.
-use Rattle.std.proofs.Common.{◌≡◌, ◌∙◌, ◌<◌, ℕ, zero, suc, true, List, [], ◌∷◌, ◌++◌, Some, refl, sym, ap, arith}
-use Rattle.std.specs.Prelude.{codes, slice_index, if◌then◌else◌}
-use Rattle.std.specs.Str.{IsAscii, is_utf8}
+use Rattle.std.proofs.Common.{◌≡◌, ◌∙◌, ℕ, zero, suc, List, [], ◌∷◌, ◌++◌, refl, sym, ap, arith}
+use Rattle.std.specs.Prelude.{codes, if◌then◌else◌}
+use Rattle.std.specs.Str.{IsAscii}
 use Rattle.std.proofs.lemmas.Str.{IsUtf8-from_ascii}
 use Rattle.rls_runs.proofs.Texts.{utf8_from_text}
-use Rattle.rls_script.specs.Scripts.{is_space, parts_of}
+use Rattle.rls_script.specs.Scripts.{is_space}
 use Rattle.rls_anchor.specs.declared.anchor.Anchor.{Anchor}
 use Rattle.rls_anchor.specs.Anchors.{anchor_over}
 use Rattle.rls_anchor.proofs.Elsewhere.{located_there}

@@ -6,7 +6,6 @@ use Rattle.rls_ops.specs.declared.op.Body.{Body}
 use Rattle.rls_ops.specs.declared.op.Body.TheVariants.{Insert, Delete, Rename, Leave}
 use Rattle.rls_rename.proofs.Kept.{greatest_kept}
 use Rattle.rls_model.specs.declared.edit.Edit.{Edit}
-use Rattle.rls_model.specs.declared.edit.EditError.{EditError}
 use Rattle.rls_seen.specs.Edits.{made_over}
 use Rattle.rls_seen.specs.Seen.{Seen, greatest_over, text_over}
 use Rattle.rls_replica.specs.Names.{KeepsNames, keeps}

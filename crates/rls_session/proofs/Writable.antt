@@ -109,6 +109,7 @@ pointed_same d side at n w = go (ltb (length (text_over d.state)) at)
 
 done_writable : (d : Sitting Seen) (order : Order) → AreWritable d.state → AreWritable ((done by_parts d order).state).state
 done_writable d (orders.Edit line) w = all_sized _ (edit_sized d (read_line by_parts d.state line) (line_faultless d.state line) (sized d.state w))
+done_writable d (orders.Change at n cs) w = w
 done_writable d orders.Undo w =
     let e = with_caught_up by_parts d in
     all_sized _ (undone_sized e (last_of e.entries) (sized d.state w))
@@ -131,7 +132,7 @@ done_writable d orders.Text w = w
 done_writable d (orders.Take len) w = w
 done_writable d (orders.Send to) w = w
 done_writable d orders.Stat w = w
-done_writable d orders.Version w = w
+done_writable d (orders.Version n) w = w
 done_writable d orders.Store w = w
 done_writable d (orders.Tell on) w = w
 done_writable d orders.Quit w = w

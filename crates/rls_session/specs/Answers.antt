@@ -2,6 +2,7 @@
 use Rattle.std.specs.Prelude.{ℕ, Bool, true, false, ◌&&◌, ◌==◌, ◌++◌, List, [], ◌∷◌, length, map, encode_utf8_all, codes, nat_lt, Option, Some, None, option_map, Result, Ok, Err, if◌then◌else◌}
 use Rattle.rls_codec.specs.Reading.{message_of}
 use Rattle.rls_ops.specs.declared.message.Message.{Message}
+use Rattle.rls_ops.specs.declared.op.Op.{Op}
 use Rattle.rls_ops.specs.Spelling.{message_bytes}
 use Rattle.rls_model.specs.declared.edit.Edit.{Edit}
 use Rattle.rls_model.specs.declared.edit.EditError.{EditError}
@@ -32,14 +33,15 @@ use Rattle.rls_session.specs.declared.orders.Side.TheVariants.{Before}
 use Rattle.rls_session.specs.declared.orders.Order.{Order}
 use Rattle.rls_session.specs.declared.orders.Order.TheVariants as orders
 use Rattle.rls_session.specs.Requests.{Request, Does, Takes}
-use Rattle.rls_session.specs.Courses.{Answered, Course, Stretch, courses, stretches}
+use Rattle.rls_session.specs.Courses.{Answered}
 use Rattle.rls_session.specs.ChangeLines.{changes_text}
 use Rattle.rls_session.specs.Replies.{telling_text, no_cursor_text, ok_text, undone_text, back_text, again_text, groups_text, nothing_text, cursor_text, anchor_text, located_text, bytes_text, refused_text, failed_text, bad_text, version_text}
 
 -- what a session asks of a state, and how it changes one, whatever states are
 pub record Kind (X : Type 0) : Type 0 where
-  -- why an edit is refused, if it is; the state after one that isn't; the number of its operation
+  -- why an edit is refused, if it is; its operation; the state after one that isn't refused; the number of its operation
   pub fault : X → Edit → Option EditError
+  pub made : X → Edit → Op
   pub edited : X → Edit → X
   pub number : X → ℕ
   -- what is kept of an edit, so that it can be undone
@@ -298,9 +300,10 @@ turn_told K turn d = told_rested K d (edit_changes (turn_edits K turn d)) (turne
 abbrev pub take_told : {X : Type 0} → Kind X → Sitting X → Result Message ℕ → Answered (Sitting X)
 take_told K d r = told d (message_changes K d.state r) (taken K d r)
 
--- orders to store and to quit, and one to take what isn't there, are never answered
+-- orders to store and to quit, one to take what isn't there, and changes (specs/Seats) are never answered here
 abbrev pub done : {X : Type 0} → Kind X → Sitting X → Order → Answered (Sitting X)
 done K d (orders.Edit line) = edit_told K d (read_line K d.state line)
+done K d (orders.Change at n cs) = says [] d
 done K d orders.Undo = undo_told K (with_caught_up K d)
 done K d orders.Back = turn_told K turns.Back (with_begun K d)
 done K d orders.Again = turn_told K turns.Again (with_begun K d)
@@ -313,7 +316,7 @@ done K d orders.Text = says (text_reply K d.state) d
 done K d (orders.Take len) = says [] d
 done K d (orders.Send to) = says (sent K d.state to) d
 done K d orders.Stat = says (stat_reply K d.state) d
-done K d orders.Version = says version_text d
+done K d (orders.Version n) = says (version_text n) d
 done K d orders.Store = says [] d
 done K d (orders.Tell on) = says (telling_text on) (with_telling d on)
 done K d orders.Quit = says [] d
@@ -332,16 +335,3 @@ settled_sitting K d = record { state = d.state; entries = map (K.settled d.state
 -- after a store it is so, and what every member has is dropped
 abbrev pub resumed : {X : Type 0} → Kind X → Sitting X → Sitting X
 resumed K d = with_state (settled_sitting K d) (K.dropped d.state)
-
--- ---- the session
-
--- from this sitting over this input
-abbrev pub stretches_by : {X : Type 0} → Kind X → Sitting X → List ℕ → List (Stretch (Sitting X))
-stretches_by K d input = stretches (answer K) (resumed K) d input
-
-abbrev pub session_by : {X : Type 0} → Kind X → Sitting X → List ℕ → List (Course (Sitting X))
-session_by K d input = courses (answer K) (resumed K) d input
-
--- from this state
-abbrev pub session_from : {X : Type 0} → Kind X → X → List ℕ → List (Course (Sitting X))
-session_from K s input = session_by K (sitting_at s) input

@@ -7,8 +7,9 @@ use Rattle.rls_report.specs.Failures.{error_line, error_status}
 use Rattle.rls_seen.specs.Seen.{Seen}
 use Rattle.rls_stages.specs.Endings.{own_line, or_else}
 use Rattle.rls_stages.specs.KeptFile.{loaded, replica_in, saved}
-use Rattle.rls_session.specs.Answers.{Sitting, session_by, sitting_at}
+use Rattle.rls_session.specs.Answers.{Sitting, sitting_at}
 use Rattle.rls_session.specs.Courses.{Course}
+use Rattle.rls_session.specs.Seats.{session_by}
 use Rattle.rls_session.specs.Sessions.{by_parts}
 
 -- up to a store: the replies to all requests, and the replica whose file is stored then, or why none is

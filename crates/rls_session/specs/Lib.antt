@@ -6,6 +6,8 @@ pub mod Replies
 pub mod ChangeLines
 pub mod Cursors
 pub mod Answers
+pub mod Drafts
+pub mod Seats
 pub mod Sessions
 pub mod SessionLaws
 pub mod Sent

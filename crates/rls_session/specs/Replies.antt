@@ -66,9 +66,13 @@ failed_text error = codes "no " ++ error_line error
 abbrev pub bad_text : List ℕ
 bad_text = codes "bad\n"
 
--- the version of the protocol
-abbrev pub version_text : List ℕ
-version_text = codes "version 2\n"
+-- a version of the protocol
+abbrev pub version_text : ℕ → List ℕ
+version_text n = line (codes "version " ∷ decimal n ∷ [])
+
+-- the change was accepted
+abbrev pub noted_text : List ℕ
+noted_text = codes "ok\n"
 
 -- the file was stored
 abbrev pub saved_text : List ℕ

@@ -5,9 +5,10 @@ use Rattle.rls_codec.specs.CodecLaws.{IsMessage}
 use Rattle.rls_seen.specs.Messages.{message_over}
 use Rattle.rls_seen.specs.Seen.{Seen, members}
 use Rattle.rls_session.specs.declared.orders.Order.TheVariants.{Send}
-use Rattle.rls_session.specs.Answers.{Sitting, answer, stretches_by}
+use Rattle.rls_session.specs.Answers.{Sitting}
 use Rattle.rls_session.specs.Courses.{Stretch, holds}
 use Rattle.rls_session.specs.Requests.{Request, Does}
+use Rattle.rls_session.specs.Seats.{Seat, at_work, respond, stretches_by}
 use Rattle.rls_session.specs.Sessions.{by_parts}
 
 -- the bytes for this member, if there is one, are its message, so that they are read as it
@@ -19,10 +20,14 @@ abbrev pub SendsMessage : Sitting Seen → Request → Type 0
 SendsMessage d (Does (Send to)) = CanSend d.state to
 SendsMessage d request = Unit {0}
 
+-- once the draft is made
+abbrev pub SendsFrom : Seat Seen → Request → Type 0
+SendsFrom b request = SendsMessage (at_work by_parts b) request
+
 -- to each such request of these stretches
-abbrev pub SendMessages : List (Stretch (Sitting Seen)) → Type 0
+abbrev pub SendMessages : List (Stretch (Seat Seen)) → Type 0
 SendMessages [] = Unit {0}
-SendMessages (a ∷ others) = holds (answer by_parts) SendsMessage a.state a.input × SendMessages others
+SendMessages (a ∷ others) = holds (respond by_parts) SendsFrom a.state a.input × SendMessages others
 
 -- to each such request of an input, from this sitting on
 abbrev pub SendsMessages : Sitting Seen → List ℕ → Type 0

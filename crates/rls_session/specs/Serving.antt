@@ -10,13 +10,14 @@ use Rattle.rls_stages.specs.KeptFile.{IsUsable, Stays, saved}
 use Rattle.rls_session.specs.declared.answering.Halt.{Halt}
 use Rattle.rls_session.specs.declared.answering.Halt.TheVariants.{Store, End}
 use Rattle.rls_session.specs.Answering.{IsFront, IsNear, IsPrompt}
-use Rattle.rls_session.specs.Answers.{Sitting, answer, resumed, session_by, sitting_at}
+use Rattle.rls_session.specs.Answers.{Sitting, resumed, sitting_at}
 use Rattle.rls_session.specs.Calls.{AreAllFilesOf, AreDue, Calls, HasSaved, HasServed, IsFileOf, Stores, tried}
-use Rattle.rls_session.specs.Courses.{course, holds, replies_in, used_in}
+use Rattle.rls_session.specs.Courses.{holds, replies_in, used_in}
 use Rattle.rls_session.specs.Devices.{Devices}
 use Rattle.rls_session.specs.Due.{due, due_from, due_of, found_in}
 use Rattle.rls_session.specs.Endings.{Ends, EndsNear, EndsPromptly, IsDoneTo, IsSessionsOwn, IsSessionStatus, Leaves, OnSession, Saves}
-use Rattle.rls_session.specs.Sent.{SendsMessage, SendsMessages}
+use Rattle.rls_session.specs.Sent.{SendsFrom, SendsMessages}
+use Rattle.rls_session.specs.Seats.{course_at, respond, seated, session_by}
 use Rattle.rls_session.specs.Sessions.{by_parts}
 
 -- Storing this replica's file, and telling it, came to this end: by what is seen of the keeper, of its file and of its count of failed calls,
@@ -61,13 +62,13 @@ pub record StageEnds {K : Type 0} (store : K → List ℕ → Bool → K → Typ
 
 -- A session that stood at a sitting, before an input, stored what it was to store first, answered `saved`, and stands at another sitting now.
 pub record GoesOn (d : Sitting Seen) (given : List ℕ) (next : Sitting Seen) (come : Option (List ℕ)) (ended : Bool) (bytes : List ℕ) (old new : Devices) : Type 0 where
-  pub stores : (course (answer by_parts) d given).stores ≡ true
-  pub next_is : next ≡ resumed by_parts (course (answer by_parts) d given).state
-  pub come_is : come ≡ Some (drop (suc (course (answer by_parts) d given).used) given)
-  pub file : IsFileOf (due_of (course (answer by_parts) d given)).ending bytes
-  pub done : IsDoneTo (due_of (course (answer by_parts) d given)) old.file new.file old.told new.told
-  pub sent : holds (answer by_parts) SendsMessage d given
-  pub fed : IsFalse ended → IsFront (answer by_parts) d given
+  pub stores : (course_at by_parts d given).stores ≡ true
+  pub next_is : next ≡ resumed by_parts (course_at by_parts d given).state
+  pub come_is : come ≡ Some (drop (suc (course_at by_parts d given).used) given)
+  pub file : IsFileOf (due_of (course_at by_parts d given)).ending bytes
+  pub done : IsDoneTo (due_of (course_at by_parts d given)) old.file new.file old.told new.told
+  pub sent : holds (respond by_parts) SendsFrom (seated d) given
+  pub fed : IsFalse ended → IsFront (respond by_parts) (seated d) given
 
 -- The same, if the input is told: the keeper was called once, to store these bytes.
 pub record HasGoneOn {K : Type 0} (store : K → List ℕ → Bool → K → Type 0) (d : Sitting Seen) (come : Option (List ℕ)) (ended : Bool) (next : Sitting Seen) (next_come : Option (List ℕ)) (next_ended : Bool) (keeper_old keeper_new : K) (old new : Devices) : Type 0 where

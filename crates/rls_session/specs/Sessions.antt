@@ -6,7 +6,7 @@ use Rattle.rls_model.specs.Epochs.{greatest}
 use Rattle.rls_model.specs.History.{group_of, members_of}
 use Rattle.rls_model.specs.Receiving.{State, accept, release_all}
 use Rattle.rls_model.specs.Taking.{message_for, take_message}
-use Rattle.rls_seen.specs.Edits.{edit_fault_over}
+use Rattle.rls_seen.specs.Edits.{edit_fault_over, made_over}
 use Rattle.rls_seen.specs.Edits as edits
 use Rattle.rls_seen.specs.Kept.{dropped}
 use Rattle.rls_seen.specs.Messages.{message_over, taken_over}
@@ -24,15 +24,17 @@ use Rattle.rls_anchor.specs.declared.anchor.Anchor.{Anchor}
 use Rattle.rls_anchor.specs.Anchors.{anchor_before_over, anchor_over, before, behind, in_front, place, place_over}
 use Rattle.rls_anchor.specs.Elsewhere.{located, located_over}
 use Rattle.rls_anchor.specs.Anchors as anchors
-use Rattle.rls_session.specs.Answers.{Kind, Sitting, session_from}
+use Rattle.rls_session.specs.Answers.{Kind, Sitting}
 use Rattle.rls_session.specs.Courses.{Course}
 use Rattle.rls_session.specs.Cursors.{on_side}
+use Rattle.rls_session.specs.Seats.{session_from}
 
 -- ---- what a replica consists of
 
 abbrev pub by_parts : Kind Seen
 by_parts = record {
   fault = edit_fault_over;
+  made = made_over;
   edited = edits.edited;
   number = λ s. own_count s + 1;
   entries = entries_over;
@@ -82,6 +84,7 @@ anchor_before_in t at = in_front (greatest t.history) (slice_get (idents t.histo
 abbrev pub by_history : Kind State
 by_history = record {
   fault = fault_in;
+  made = λ t edit. made t.history edit;
   edited = λ t edit. accept t (made t.history edit);
   number = λ t. next_seq t.history;
   entries = λ t edit. entries_of t.history edit;

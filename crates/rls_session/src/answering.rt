@@ -8,11 +8,12 @@ ghost use Rattle.rls_io.specs.declared.reading.ReadError.TheVariants as read;
 ghost use Rattle.rls_script.specs.Scripts.{is_line_feed};
 ghost use Rattle.rls_stages.specs.Endings.{IsPart};
 ghost use Rattle.rls_session.specs.Answering.{is_store, of_answer, of_read, HasNoLine, IsDone, IsNear, IsNext, IsPaused, IsPrompt, IsReplied, IsUnused, LacksPart};
-ghost use Rattle.rls_session.specs.Answers.{answer, session_by};
-ghost use Rattle.rls_session.specs.Courses.{course, holds, replies_in};
+ghost use Rattle.rls_session.specs.Courses.{course, courses, holds, replies_in};
+ghost use Rattle.rls_session.specs.Drafts.{no_draft};
 ghost use Rattle.rls_session.specs.Intake.{known_come, taken, to_come, KnowsEnd, KeepsEnd};
 ghost use Rattle.rls_session.specs.Requests.{Does, cut_after};
-ghost use Rattle.rls_session.specs.Sent.{SendsMessage};
+ghost use Rattle.rls_session.specs.Seats.{IsDrafted, respond, resumed_seat, seat_of, seated};
+ghost use Rattle.rls_session.specs.Sent.{SendsFrom};
 ghost use Rattle.rls_session.specs.Sessions.{by_parts};
 ghost use Rattle.rls_session.specs.declared.answering.AnswerError.TheVariants as AnswerError;
 ghost use Rattle.rls_session.specs.declared.answering.Halt.TheVariants as Halt;
@@ -20,9 +21,10 @@ ghost use Rattle.rls_session.specs.declared.orders.Order.TheVariants as Order;
 ghost use Rattle.rls_file.specs.Stored.{AreWritable};
 
 use crate::desk::Desk;
+use crate::draft::Draft;
 use crate::intake::Intake;
 use crate::orders::{Order, order_of};
-use crate::replies::bad;
+use crate::seat;
 use rls_io::{Failed, ReadError, Sink, Source, write_all_of};
 use rls_report::{CommandError, Failure, Fault};
 use std::alloc::Global;
@@ -114,14 +116,17 @@ fn next_order<S: Source>(
 fn reply_to<S: Source>(
     alloc: Global,
     desk: &mut Desk,
+    draft: &mut Draft,
     intake: &mut Intake,
     input: &mut S,
     order: Order,
 ) -> Result<Vec<u8>, ReadError>
+    requires drafted { IsDrafted by_parts (seat_of desk.old draft.old) }
     ensures reply { IfOk result (λ reply. KnowsEnd intake.old (S.left input.old) → IfSome (to_come intake.old (S.left input.old)) (λ bytes.
-        IsReplied (answer by_parts desk.old) bytes order reply.items desk.new intake.old intake.new (S.left input.new))) }
+        IsReplied (respond by_parts (seat_of desk.old draft.old)) bytes order reply.items (seat_of desk.new draft.new) intake.old intake.new (S.left input.new))) }
+    ensures drafted { OnOk result (IsDrafted by_parts (seat_of desk.new draft.new)) }
     ensures writable { AreWritable desk.old.state → OnOk result (AreWritable desk.new.state) }
-    ensures sent { AreWritable desk.old.state → OnOk result (SendsMessage desk.old (Does order)) }
+    ensures sent { AreWritable desk.old.state → OnOk result (SendsFrom (seat_of desk.old draft.old) (Does order)) }
     ensures known { KeepsEnd intake.old (S.left input.old) intake.new (S.left input.new) }
     ensures advances { intake.old.used ≤ intake.new.used }
     ensures within { taken intake.old ≤ INPUT_BYTES + 1 → taken intake.new ≤ INPUT_BYTES + 1 }
@@ -134,8 +139,8 @@ fn reply_to<S: Source>(
     ensures never_falls { S.faults input.old ≤ S.faults input.new }
 {
     match order {
-        Order::Take { len } => reply_to_message(alloc, desk, intake, input, len),
-        order => match desk.answer(alloc, order) {
+        Order::Take { len } => reply_to_message(alloc, desk, draft, intake, input, len),
+        order => match seat::answer(alloc, desk, draft, order) {
             Err(_) => Err(ReadError::OutOfMemory),
             Ok(reply) => Ok(reply),
         },
@@ -146,12 +151,15 @@ fn reply_to<S: Source>(
 fn reply_to_message<S: Source>(
     alloc: Global,
     desk: &mut Desk,
+    draft: &mut Draft,
     intake: &mut Intake,
     input: &mut S,
     len: u64,
 ) -> Result<Vec<u8>, ReadError>
+    requires drafted { IsDrafted by_parts (seat_of desk.old draft.old) }
     ensures reply { IfOk result (λ reply. KnowsEnd intake.old (S.left input.old) → IfSome (to_come intake.old (S.left input.old)) (λ bytes.
-        IsReplied (answer by_parts desk.old) bytes (Order.Take len) reply.items desk.new intake.old intake.new (S.left input.new))) }
+        IsReplied (respond by_parts (seat_of desk.old draft.old)) bytes (Order.Take len) reply.items (seat_of desk.new draft.new) intake.old intake.new (S.left input.new))) }
+    ensures drafted { OnOk result (IsDrafted by_parts (seat_of desk.new draft.new)) }
     ensures writable { AreWritable desk.old.state → OnOk result (AreWritable desk.new.state) }
     ensures known { KeepsEnd intake.old (S.left input.old) intake.new (S.left input.new) }
     ensures advances { intake.old.used ≤ intake.new.used }
@@ -166,7 +174,7 @@ fn reply_to_message<S: Source>(
 {
     match intake.find_bytes(len, input) {
         Err(error) => Err(error),
-        Ok(true) => match desk.take(alloc, &intake.waiting()[..len as usize]) {
+        Ok(true) => match seat::take(alloc, desk, draft, &intake.waiting()[..len as usize]) {
             Err(_) => Err(ReadError::OutOfMemory),
             Ok(reply) => {
                 intake.use_up(len as usize);
@@ -176,7 +184,7 @@ fn reply_to_message<S: Source>(
         Ok(false) => {
             let n = intake.waiting().len();
             intake.use_up(n);
-            match bad(alloc) {
+            match seat::answer(alloc, desk, draft, Order::Bad) {
                 Err(_) => Err(ReadError::OutOfMemory),
                 Ok(reply) => Ok(reply),
             }
@@ -199,23 +207,26 @@ pub(crate) fn write<W: Sink>(output: &mut W, reply: &[u8]) -> Result<(), AnswerE
 }
 
 /// Answers the requests to come one after another, up to the next order to store or to quit, or to the end of the input. Each reply is
-/// written before more of the input is taken. An order to store, or to quit, isn't answered.
+/// written before more of the input is taken. An order to store, or to quit, isn't answered, and the draft that is left isn't made.
 pub(crate) fn answer_all<S: Source, W: Sink>(
     alloc: Global,
     desk: &mut Desk,
+    draft: &mut Draft,
     intake: &mut Intake,
     input: &mut S,
     output: &mut W,
 ) -> Result<Halt, AnswerError>
     requires fresh { intake.old.used ≡ 0 }
     requires short { length intake.old.waiting ≤ 4096 }
-    ensures done { IfOk result (λ halt. IfSome (known_come intake.old (S.left input.old)) (λ given. IsDone (course (answer by_parts) desk.old given) (is_store halt) desk.new (W.told output.old) (W.told output.new))) }
-    ensures paused { result ≡ Ok Halt.Store → IfSome (known_come intake.old (S.left input.old)) (λ given. IsPaused (answer by_parts) desk.old given intake.new (S.left input.new)) }
-    ensures part { OnErr result (IfSome (known_come intake.old (S.left input.old)) (λ given. IsPart (W.told output.old) (W.told output.new) (course (answer by_parts) desk.old given).replies)) }
-    ensures cut { result ≡ Err AnswerError.SinkFault → IfSome (known_come intake.old (S.left input.old)) (λ given. IsCutShort (W.told output.old) (W.told output.new) (course (answer by_parts) desk.old given).replies) }
-    ensures too_large { result ≡ Err AnswerError.TooLarge → IfSome (known_come intake.old (S.left input.old)) (λ given. INPUT_BYTES < (course (answer by_parts) desk.old given).used) }
-    ensures prompt { result ≡ Err AnswerError.SourceFault → IfSome (known_come intake.old (S.left input.old)) (λ given. IsPrompt (λ front. replies_in (session_by by_parts desk.old front)) given (S.left input.new) (W.told output.old) (W.told output.new)) }
-    ensures near { IfSome (known_come intake.old (S.left input.old)) (λ given. IsNear given (S.left input.new) (course (answer by_parts) desk.old given).used) }
+    requires none { draft.old ≡ no_draft }
+    ensures done { IfOk result (λ halt. IfSome (known_come intake.old (S.left input.old)) (λ given. IsDone (course (respond by_parts) (seated desk.old) given) (is_store halt) (seat_of desk.new draft.new) (W.told output.old) (W.told output.new))) }
+    ensures drafted { OnOk result (IsDrafted by_parts (seat_of desk.new draft.new)) }
+    ensures paused { result ≡ Ok Halt.Store → IfSome (known_come intake.old (S.left input.old)) (λ given. IsPaused (respond by_parts) (seated desk.old) given intake.new (S.left input.new)) }
+    ensures part { OnErr result (IfSome (known_come intake.old (S.left input.old)) (λ given. IsPart (W.told output.old) (W.told output.new) (course (respond by_parts) (seated desk.old) given).replies)) }
+    ensures cut { result ≡ Err AnswerError.SinkFault → IfSome (known_come intake.old (S.left input.old)) (λ given. IsCutShort (W.told output.old) (W.told output.new) (course (respond by_parts) (seated desk.old) given).replies) }
+    ensures too_large { result ≡ Err AnswerError.TooLarge → IfSome (known_come intake.old (S.left input.old)) (λ given. INPUT_BYTES < (course (respond by_parts) (seated desk.old) given).used) }
+    ensures prompt { result ≡ Err AnswerError.SourceFault → IfSome (known_come intake.old (S.left input.old)) (λ given. IsPrompt (λ front. replies_in (courses (respond by_parts) (resumed_seat by_parts) (seated desk.old) front)) given (S.left input.new) (W.told output.old) (W.told output.new)) }
+    ensures near { IfSome (known_come intake.old (S.left input.old)) (λ given. IsNear given (S.left input.new) (course (respond by_parts) (seated desk.old) given).used) }
     ensures short { OnOk result (length intake.new.waiting ≤ 4096) }
     ensures stays_ended { IsTrue intake.old.ended → IsTrue intake.new.ended }
     ensures open { result ≡ Err AnswerError.SourceFault → IsFalse intake.old.ended }
@@ -224,7 +235,7 @@ pub(crate) fn answer_all<S: Source, W: Sink>(
     ensures input_never_falls { S.faults input.old ≤ S.faults input.new }
     ensures never_falls { W.faults output.old ≤ W.faults output.new }
     ensures writable { AreWritable desk.old.state → OnOk result (AreWritable desk.new.state) }
-    ensures sent { AreWritable desk.old.state → OnOk result (IfSome (known_come intake.old (S.left input.old)) (λ given. holds (answer by_parts) SendsMessage desk.old given)) }
+    ensures sent { AreWritable desk.old.state → OnOk result (IfSome (known_come intake.old (S.left input.old)) (λ given. holds (respond by_parts) SendsFrom (seated desk.old) given)) }
 {
     loop {
         match next_order(alloc, intake, input) {
@@ -233,7 +244,7 @@ pub(crate) fn answer_all<S: Source, W: Sink>(
             Ok(Some(order)) => match order {
                 Order::Quit => return Ok(Halt::End),
                 Order::Store => return Ok(Halt::Store),
-                order => match reply_to(alloc, desk, intake, input, order) {
+                order => match reply_to(alloc, desk, draft, intake, input, order) {
                     Err(error) => return Err(AnswerError::from(error)),
                     Ok(reply) => match write(output, &reply) {
                         Err(error) => return Err(error),

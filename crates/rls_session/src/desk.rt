@@ -105,7 +105,7 @@ impl Desk {
         &self.replica
     }
 
-    /// Answers an order. Those to store, to quit and to take a message are answered by nothing.
+    /// Answers an order. A change, and those to store, to quit and to take a message, are answered by nothing here.
     pub(crate) fn answer(&mut self, alloc: Global, order: Order) -> Result<Vec<u8>, AllocError>
         ensures answered { IfOk result (λ reply. IsAnswered (done by_parts self.old order) reply.items self.new) }
         ensures sent { AreWritable self.old.state → OnOk result (SendsMessage self.old (Does order)) }
@@ -124,9 +124,11 @@ impl Desk {
             Order::Send { to } => showing::message(alloc, &self.replica, to),
             Order::Stat => showing::stat(alloc, &self.replica),
             Order::Tell { on } => self.tell_from_now(alloc, on),
-            Order::Version => replies::version(alloc),
+            Order::Version { number } => replies::version(alloc, number),
             Order::Bad => replies::bad(alloc),
-            Order::Take { .. } | Order::Store | Order::Quit => Ok(Vec::new(alloc)),
+            Order::Change { .. } | Order::Take { .. } | Order::Store | Order::Quit => Ok(Vec::new(
+                alloc,
+            )),
         }
     }
 
@@ -201,6 +203,27 @@ impl Desk {
             push_own(changes, edit)?;
         }
         replies::ok(alloc, seq)
+    }
+
+    /// Makes an edit that has no fault, with what undoes it and its steps. Nothing is released, and nothing told.
+    pub(crate) fn make_own(&mut self, edit: &Edit) -> Result<(), AllocError>
+        requires fits { edit_fault_over self.old.state edit.now ≡ None }
+        ensures made { OnOk result (self.new ≡ made_sitting by_parts self.old edit.now) }
+    {
+        // It isn't refused, so that memory alone may be wanting.
+        let Ok(op) = self.replica.made(edit) else {
+            return Err(AllocError);
+        };
+        let _seq = self.record(edit, &op)?;
+        Ok(())
+    }
+
+    /// Releases waiting operations until none is ready, and tells nothing.
+    pub(crate) fn rest(&mut self, alloc: Global) -> Result<(), AllocError>
+        ensures rested { OnOk result (self.new ≡ with_state self.old (released_all self.old.state)) }
+    {
+        let mut taken = Taken::new(alloc);
+        self.replica.release_all(&mut taken)
     }
 
     // Makes an edit that has no fault and makes this operation, with what undoes it and its steps.

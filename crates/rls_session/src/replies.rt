@@ -2,7 +2,7 @@
 
 ghost use Rattle.std.specs.Prelude.{◌≡◌, length, None, IfOk};
 ghost use Rattle.rls_report.specs.Reports.{take_text};
-ghost use Rattle.rls_session.specs.Replies.{ok_text, undone_text, back_text, again_text, groups_text, nothing_text, cursor_text, anchor_text, located_text, no_cursor_text, telling_text, bytes_text, refused_text, failed_text, bad_text, version_text};
+ghost use Rattle.rls_session.specs.Replies.{ok_text, undone_text, back_text, again_text, groups_text, nothing_text, cursor_text, anchor_text, located_text, no_cursor_text, noted_text, telling_text, bytes_text, refused_text, failed_text, bad_text, version_text};
 
 use rls_anchor::Anchor;
 use rls_model::Taken;
@@ -126,11 +126,18 @@ pub(crate) fn taken(alloc: Global, found: &Taken) -> Result<Vec<u8>, AllocError>
     Ok(taken_report(alloc, found)?.into_bytes())
 }
 
-/// The version of the protocol.
-pub(crate) fn version(alloc: Global) -> Result<Vec<u8>, AllocError>
-    ensures text { IfOk result (λ text. text.items ≡ version_text) }
+/// A version of the protocol.
+pub(crate) fn version(alloc: Global, number: u32) -> Result<Vec<u8>, AllocError>
+    ensures text { IfOk result (λ text. text.items ≡ version_text number) }
 {
-    Vec::from_slice(alloc, b"version 2\n")
+    Ok(format!(in alloc; "version {number}\n")?.into_bytes())
+}
+
+/// The change was accepted.
+pub(crate) fn noted(alloc: Global) -> Result<Vec<u8>, AllocError>
+    ensures text { IfOk result (λ text. text.items ≡ noted_text) }
+{
+    Vec::from_slice(alloc, b"ok\n")
 }
 
 /// The line is nothing that a session knows.

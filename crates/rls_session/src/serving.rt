@@ -18,7 +18,9 @@ ghost use Rattle.rls_file.specs.Stored.{AreWritable};
 
 use crate::answering::{Halt, answer_all, write};
 use crate::desk::Desk;
+use crate::draft::Draft;
 use crate::intake::Intake;
+use crate::seat;
 use rls_io::{Keeper, Sink, Source, StoreError};
 use rls_replica::Replica;
 use rls_report::{Failure, Fault};
@@ -160,13 +162,21 @@ fn serve_stretch<K: Keeper, S: Source, W: Sink>(
     ensures fresh { result ≡ Ok Halt.Store → intake.new.used ≡ 0 }
     ensures short { OnOk result (length intake.new.waiting ≤ 4096) }
 {
-    match answer_all(alloc, desk, intake, input, output) {
-        Err(error) => Err(Failure::from(error)),
-        Ok(Halt::End) => match save(alloc, desk.replica(), keeper, output) {
+    let mut draft = Draft::none(alloc);
+    let halt = match answer_all(alloc, desk, &mut draft, intake, input, output) {
+        Err(error) => return Err(Failure::from(error)),
+        Ok(halt) => halt,
+    };
+    // What the editor changed last is stored as well.
+    if let Err(_) = seat::make(alloc, desk, &mut draft) {
+        return Err(Failure::of_fault(Fault::Memory));
+    }
+    match halt {
+        Halt::End => match save(alloc, desk.replica(), keeper, output) {
             Err(failure) => Err(failure),
             Ok(()) => Ok(Halt::End),
         },
-        Ok(Halt::Store) => match store_and_go_on(alloc, desk, intake, keeper, output) {
+        Halt::Store => match store_and_go_on(alloc, desk, intake, keeper, output) {
             Err(failure) => Err(failure),
             Ok(()) => Ok(Halt::Store),
         },

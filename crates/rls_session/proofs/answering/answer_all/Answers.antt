@@ -1,39 +1,48 @@
-use Rattle.std.proofs.Common.{Err, Option, ap, arith, subst}
+use Rattle.std.proofs.Common.{Err, Option, ap, arith, subst, sym}
 use Rattle.rls_io.specs.Device.{IsCutShort}
-use Rattle.rls_session.specs.Answers.{answer, resumed}
+use Rattle.rls_session.specs.Seats.{respond, resumed_seat, seat_of, seated}
 use Rattle.rls_session.specs.Answering.{IsNext}
 use Rattle.rls_session.specs.Intake.{known_come, to_come}
 use Rattle.rls_session.specs.declared.orders.Order.{Order}
 use Rattle.rls_session.specs.Courses.{course}
 use Rattle.rls_session.specs.Sessions.{by_parts}
-use Rattle.rls_session.proofs.Loop.{between_full, between_near, between_part, between_prompt, cut_part, fault_of, not_sink, reply_cut, too_large_of, way_first, way_full, way_near, way_order, way_over, way_part, way_paused, way_prompt, way_quit, way_reply, way_store, written}
-use Rattle.rls_session.proofs.Sent.{sent_first, sent_over, sent_quit, sent_reply, sent_store}
+use Rattle.rls_session.specs.declared.draft.Draft.{Draft}
+use Rattle.rls_session.proofs.Drafting.{none_drafted}
+use Rattle.rls_session.proofs.Loop.{OnWay, between_full, between_near, between_part, between_prompt, cut_part, fault_of, not_sink, reply_cut, too_large_of, way_first, way_full, way_near, way_order, way_over, way_part, way_paused, way_prompt, way_quit, way_reply, way_store, written}
+use Rattle.rls_session.proofs.Sent.{AreSent, sent_first, sent_over, sent_quit, sent_reply, sent_store}
 use Rattle.rls_session.proofs.answering.answer_all.Goals as goal
 
 pub loop-error-init : goal.loop-error-init
-loop-error-init g c = record {
-  short = c.requires.short;
-  ended = λ e. e;
-  way = way_first (answer by_parts) c.args.desk.now c.args.intake.now (g.S.Source.left c.args.input.now) (g.W.Sink.told c.args.output.now) c.requires.fresh;
-  writable = λ w. w;
-  sent = λ w. sent_first c.args.desk.now c.args.intake.now (g.S.Source.left c.args.input.now);
-  input_never_falls = omega arith;
-  never_falls = omega arith;
-}
+loop-error-init g c =
+    let d = c.args.desk.now in
+    let a = c.args.intake.now in
+    let left = g.S.Source.left c.args.input.now in
+    let told = g.W.Sink.told c.args.output.now in
+    let none = sym c.requires.none in
+    record {
+      short = c.requires.short;
+      ended = λ e. e;
+      way = subst (λ (p : Draft). OnWay (respond by_parts) (seated d) (known_come a left) (seat_of d p) a left told told) none (way_first (respond by_parts) (seated d) a left told c.requires.fresh);
+      drafted = none_drafted d c.args.draft.now c.requires.none;
+      writable = λ w. w;
+      sent = λ w. subst (λ (p : Draft). AreSent (seated d) (known_come a left) (seat_of d p) a left) none (sent_first (seated d) a left);
+      input_never_falls = omega arith;
+      never_falls = omega arith;
+    }
 
 pub returns-in-Err-clause-part : goal.returns-in-Err-clause-part
 returns-in-Err-clause-part g c =
-    way_part (answer by_parts) c.args.desk.now c.loop-error.desk (known_come c.args.intake.now (g.S.Source.left c.args.input.now)) c.loop-error.intake (g.S.Source.left c.loop-error.input) (g.W.Sink.told c.args.output.now) (g.W.Sink.told c.loop-error.output) c.loop-error.invariant.way
+    way_part (respond by_parts) (seated c.args.desk.now) (seat_of c.loop-error.desk c.loop-error.draft) (known_come c.args.intake.now (g.S.Source.left c.args.input.now)) c.loop-error.intake (g.S.Source.left c.loop-error.input) (g.W.Sink.told c.args.output.now) (g.W.Sink.told c.loop-error.output) c.loop-error.invariant.way
 
 pub returns-in-Err-clause-too_large : goal.returns-in-Err-clause-too_large
 returns-in-Err-clause-too_large g c = λ e.
     let full = c.in-Err.ensures.too_large (ap Err (too_large_of c.in-Err.error c.from.result c.from.ensures e)) in
-    way_full (answer by_parts) c.args.desk.now c.loop-error.desk (known_come c.args.intake.now (g.S.Source.left c.args.input.now)) c.loop-error.intake c.next_order.new.intake (g.S.Source.left c.loop-error.input) (g.S.Source.left c.next_order.new.input) (g.W.Sink.told c.args.output.now) (g.W.Sink.told c.loop-error.output) c.loop-error.invariant.way full.0 full.1 full.2
+    way_full (respond by_parts) (seated c.args.desk.now) (seat_of c.loop-error.desk c.loop-error.draft) (known_come c.args.intake.now (g.S.Source.left c.args.input.now)) c.loop-error.intake c.next_order.new.intake (g.S.Source.left c.loop-error.input) (g.S.Source.left c.next_order.new.input) (g.W.Sink.told c.args.output.now) (g.W.Sink.told c.loop-error.output) c.loop-error.invariant.way full.0 full.1 full.2
 
 pub returns-in-Err-clause-prompt : goal.returns-in-Err-clause-prompt
 returns-in-Err-clause-prompt g c = λ e.
     let unread = c.in-Err.ensures.unread (ap Err (fault_of c.in-Err.error c.from.result c.from.ensures e)) in
-    way_prompt (answer by_parts) (resumed by_parts) c.args.desk.now c.loop-error.desk (known_come c.args.intake.now (g.S.Source.left c.args.input.now)) c.loop-error.intake c.next_order.new.intake (g.S.Source.left c.loop-error.input) (g.S.Source.left c.next_order.new.input) (g.W.Sink.told c.args.output.now) (g.W.Sink.told c.loop-error.output) c.loop-error.invariant.way unread.0 c.in-Err.ensures.stays_ended unread.1 unread.2
+    way_prompt (respond by_parts) (resumed_seat by_parts) (seated c.args.desk.now) (seat_of c.loop-error.desk c.loop-error.draft) (known_come c.args.intake.now (g.S.Source.left c.args.input.now)) c.loop-error.intake c.next_order.new.intake (g.S.Source.left c.loop-error.input) (g.S.Source.left c.next_order.new.input) (g.W.Sink.told c.args.output.now) (g.W.Sink.told c.loop-error.output) c.loop-error.invariant.way unread.0 c.in-Err.ensures.stays_ended unread.1 unread.2
 
 pub returns-in-Err-clause-near : goal.returns-in-Err-clause-near
 returns-in-Err-clause-near g c = way_near _ _ _ _ _ _ _ _ _ c.loop-error.invariant.way (c.next_order.ensures.near c.loop-error.invariant.short)
@@ -50,39 +59,39 @@ returns-in-Quit-clause-done g c = way_quit _ _ _ _ _ _ _ _ _ (way_order _ _ _ _ 
 pub returns-in-Err-reply_to-clause-part : goal.returns-in-Err-reply_to-clause-part
 returns-in-Err-reply_to-clause-part g c =
     let between = way_order _ _ _ _ _ _ _ _ _ _ _ _ c.loop-error.invariant.way c.in-Ok-Some.field-0-is c.in-Ok-Some.ensures.next c.in-Ok-Some.ensures.known c.in-Ok-Some.ensures.stays_ended in
-    between_part (answer by_parts) c.args.desk.now c.loop-error.desk (known_come c.args.intake.now (g.S.Source.left c.args.input.now)) c.in-Ok-Some.order c.next_order.new.intake (g.S.Source.left c.next_order.new.input) (g.W.Sink.told c.args.output.now) (g.W.Sink.told c.loop-error.output) between
+    between_part (respond by_parts) (seated c.args.desk.now) (seat_of c.loop-error.desk c.loop-error.draft) (known_come c.args.intake.now (g.S.Source.left c.args.input.now)) c.in-Ok-Some.order c.next_order.new.intake (g.S.Source.left c.next_order.new.input) (g.W.Sink.told c.args.output.now) (g.W.Sink.told c.loop-error.output) between
 
 pub returns-in-Err-reply_to-clause-too_large : goal.returns-in-Err-reply_to-clause-too_large
 returns-in-Err-reply_to-clause-too_large g c = λ e.
     let between = way_order _ _ _ _ _ _ _ _ _ _ _ _ c.loop-error.invariant.way c.in-Ok-Some.field-0-is c.in-Ok-Some.ensures.next c.in-Ok-Some.ensures.known c.in-Ok-Some.ensures.stays_ended in
     let full = c.in-Err-reply_to.ensures.too_large (ap Err (too_large_of c.in-Err-reply_to.error c.from-in-Err-reply_to.result c.from-in-Err-reply_to.ensures e)) in
-    between_full (answer by_parts) c.args.desk.now c.loop-error.desk (known_come c.args.intake.now (g.S.Source.left c.args.input.now)) c.in-Ok-Some.order c.next_order.new.intake c.reply_to.new.intake (g.S.Source.left c.next_order.new.input) (g.S.Source.left c.reply_to.new.input) (g.W.Sink.told c.args.output.now) (g.W.Sink.told c.loop-error.output) between full.0 full.1 full.2
+    between_full (respond by_parts) (seated c.args.desk.now) (seat_of c.loop-error.desk c.loop-error.draft) (known_come c.args.intake.now (g.S.Source.left c.args.input.now)) c.in-Ok-Some.order c.next_order.new.intake c.reply_to.new.intake (g.S.Source.left c.next_order.new.input) (g.S.Source.left c.reply_to.new.input) (g.W.Sink.told c.args.output.now) (g.W.Sink.told c.loop-error.output) between full.0 full.1 full.2
 
 pub returns-in-Err-reply_to-clause-prompt : goal.returns-in-Err-reply_to-clause-prompt
 returns-in-Err-reply_to-clause-prompt g c = λ e.
     let between = way_order _ _ _ _ _ _ _ _ _ _ _ _ c.loop-error.invariant.way c.in-Ok-Some.field-0-is c.in-Ok-Some.ensures.next c.in-Ok-Some.ensures.known c.in-Ok-Some.ensures.stays_ended in
     let unread = c.in-Err-reply_to.ensures.unread (ap Err (fault_of c.in-Err-reply_to.error c.from-in-Err-reply_to.result c.from-in-Err-reply_to.ensures e)) in
-    between_prompt (answer by_parts) (resumed by_parts) c.args.desk.now c.loop-error.desk (known_come c.args.intake.now (g.S.Source.left c.args.input.now)) c.in-Ok-Some.order c.next_order.new.intake c.reply_to.new.intake (g.S.Source.left c.next_order.new.input) (g.S.Source.left c.reply_to.new.input) (g.W.Sink.told c.args.output.now) (g.W.Sink.told c.loop-error.output) between unread.0 c.in-Err-reply_to.ensures.stays_ended unread.1 unread.2
+    between_prompt (respond by_parts) (resumed_seat by_parts) (seated c.args.desk.now) (seat_of c.loop-error.desk c.loop-error.draft) (known_come c.args.intake.now (g.S.Source.left c.args.input.now)) c.in-Ok-Some.order c.next_order.new.intake c.reply_to.new.intake (g.S.Source.left c.next_order.new.input) (g.S.Source.left c.reply_to.new.input) (g.W.Sink.told c.args.output.now) (g.W.Sink.told c.loop-error.output) between unread.0 c.in-Err-reply_to.ensures.stays_ended unread.1 unread.2
 
 pub returns-in-Err-reply_to-clause-near : goal.returns-in-Err-reply_to-clause-near
 returns-in-Err-reply_to-clause-near g c =
     let between = way_order _ _ _ _ _ _ _ _ _ _ _ _ c.loop-error.invariant.way c.in-Ok-Some.field-0-is c.in-Ok-Some.ensures.next c.in-Ok-Some.ensures.known c.in-Ok-Some.ensures.stays_ended in
-    between_near (answer by_parts) c.args.desk.now c.loop-error.desk (known_come c.args.intake.now (g.S.Source.left c.args.input.now)) c.in-Ok-Some.order c.next_order.new.intake (g.S.Source.left c.next_order.new.input) (g.S.Source.left c.reply_to.new.input) (g.W.Sink.told c.args.output.now) (g.W.Sink.told c.loop-error.output) between (λ q. c.in_default.not-Quit q, λ q. c.in_default.not-Store q) (c.reply_to.ensures.near (c.in-Ok-Some.ensures.few c.loop-error.invariant.short))
+    between_near (respond by_parts) (seated c.args.desk.now) (seat_of c.loop-error.desk c.loop-error.draft) (known_come c.args.intake.now (g.S.Source.left c.args.input.now)) c.in-Ok-Some.order c.next_order.new.intake (g.S.Source.left c.next_order.new.input) (g.S.Source.left c.reply_to.new.input) (g.W.Sink.told c.args.output.now) (g.W.Sink.told c.loop-error.output) between (λ q. c.in_default.not-Quit q, λ q. c.in_default.not-Store q) (c.reply_to.ensures.near (c.in-Ok-Some.ensures.few c.loop-error.invariant.short))
 
 pub returns-in-Err-write-clause-near : goal.returns-in-Err-write-clause-near
 returns-in-Err-write-clause-near g c =
     let between = way_order _ _ _ _ _ _ _ _ _ _ _ _ c.loop-error.invariant.way c.in-Ok-Some.field-0-is c.in-Ok-Some.ensures.next c.in-Ok-Some.ensures.known c.in-Ok-Some.ensures.stays_ended in
-    between_near (answer by_parts) c.args.desk.now c.loop-error.desk (known_come c.args.intake.now (g.S.Source.left c.args.input.now)) c.in-Ok-Some.order c.next_order.new.intake (g.S.Source.left c.next_order.new.input) (g.S.Source.left c.reply_to.new.input) (g.W.Sink.told c.args.output.now) (g.W.Sink.told c.loop-error.output) between (λ q. c.in_default.not-Quit q, λ q. c.in_default.not-Store q) (c.reply_to.ensures.near (c.in-Ok-Some.ensures.few c.loop-error.invariant.short))
+    between_near (respond by_parts) (seated c.args.desk.now) (seat_of c.loop-error.desk c.loop-error.draft) (known_come c.args.intake.now (g.S.Source.left c.args.input.now)) c.in-Ok-Some.order c.next_order.new.intake (g.S.Source.left c.next_order.new.input) (g.S.Source.left c.reply_to.new.input) (g.W.Sink.told c.args.output.now) (g.W.Sink.told c.loop-error.output) between (λ q. c.in_default.not-Quit q, λ q. c.in_default.not-Store q) (c.reply_to.ensures.near (c.in-Ok-Some.ensures.few c.loop-error.invariant.short))
 
 pub returns-in-Err-write-clause-cut : goal.returns-in-Err-write-clause-cut
 returns-in-Err-write-clause-cut g c = λ e.
     let between = way_order _ _ _ _ _ _ _ _ _ _ _ _ c.loop-error.invariant.way c.in-Ok-Some.field-0-is c.in-Ok-Some.ensures.next c.in-Ok-Some.ensures.known c.in-Ok-Some.ensures.stays_ended in
-    reply_cut (answer by_parts) c.args.desk.now c.loop-error.desk c.reply_to.new.desk (known_come c.args.intake.now (g.S.Source.left c.args.input.now)) c.in-Ok-Some.order c.in-Ok.reply.items c.next_order.new.intake c.reply_to.new.intake (g.S.Source.left c.next_order.new.input) (g.S.Source.left c.reply_to.new.input) (g.W.Sink.told c.args.output.now) (g.W.Sink.told c.loop-error.output) (g.W.Sink.told c.write.new.output) between (λ q. c.in_default.not-Quit q, λ q. c.in_default.not-Store q) c.in-Ok.ensures.reply
+    reply_cut (respond by_parts) (seated c.args.desk.now) (seat_of c.loop-error.desk c.loop-error.draft) (seat_of c.reply_to.new.desk c.reply_to.new.draft) (known_come c.args.intake.now (g.S.Source.left c.args.input.now)) c.in-Ok-Some.order c.in-Ok.reply.items c.next_order.new.intake c.reply_to.new.intake (g.S.Source.left c.next_order.new.input) (g.S.Source.left c.reply_to.new.input) (g.W.Sink.told c.args.output.now) (g.W.Sink.told c.loop-error.output) (g.W.Sink.told c.write.new.output) between (λ q. c.in_default.not-Quit q, λ q. c.in_default.not-Store q) c.in-Ok.ensures.reply
     (subst (IsCutShort (g.W.Sink.told c.loop-error.output) (g.W.Sink.told c.write.new.output)) c.deref.ensures.value c.in-Err-write.ensures.err)
 
 pub returns-in-Err-write-clause-part : goal.returns-in-Err-write-clause-part
 returns-in-Err-write-clause-part g c =
-    cut_part (known_come c.args.intake.now (g.S.Source.left c.args.input.now)) (λ given. (course (answer by_parts) c.args.desk.now given).replies) (g.W.Sink.told c.args.output.now) (g.W.Sink.told c.write.new.output)
+    cut_part (known_come c.args.intake.now (g.S.Source.left c.args.input.now)) (λ given. (course (respond by_parts) (seated c.args.desk.now) given).replies) (g.W.Sink.told c.args.output.now) (g.W.Sink.told c.write.new.output)
     (returns-in-Err-write-clause-cut g c (ap Err c.in-Err-write.ensures.error))
 
 pub returns-in-Err-clause-cut : goal.returns-in-Err-clause-cut
@@ -97,20 +106,21 @@ loop-error-preserved g c =
     record {
       ended = λ e. c.in-Ok.ensures.stays_ended (c.in-Ok-Some.ensures.stays_ended (c.loop-error.invariant.ended e));
       short = c.in-Ok.ensures.few (c.in-Ok-Some.ensures.few c.loop-error.invariant.short);
-      way = way_reply (answer by_parts) c.args.desk.now c.loop-error.desk c.reply_to.new.desk (known_come c.args.intake.now (g.S.Source.left c.args.input.now)) c.in-Ok-Some.order c.in-Ok.reply.items c.next_order.new.intake c.reply_to.new.intake (g.S.Source.left c.next_order.new.input) (g.S.Source.left c.reply_to.new.input) (g.W.Sink.told c.args.output.now) (g.W.Sink.told c.loop-error.output) (g.W.Sink.told c.write.new.output) between (λ q. c.in_default.not-Quit q, λ q. c.in_default.not-Store q) c.in-Ok.ensures.reply c.in-Ok.ensures.known c.in-Ok.ensures.stays_ended
+      way = way_reply (respond by_parts) (seated c.args.desk.now) (seat_of c.loop-error.desk c.loop-error.draft) (seat_of c.reply_to.new.desk c.reply_to.new.draft) (known_come c.args.intake.now (g.S.Source.left c.args.input.now)) c.in-Ok-Some.order c.in-Ok.reply.items c.next_order.new.intake c.reply_to.new.intake (g.S.Source.left c.next_order.new.input) (g.S.Source.left c.reply_to.new.input) (g.W.Sink.told c.args.output.now) (g.W.Sink.told c.loop-error.output) (g.W.Sink.told c.write.new.output) between (λ q. c.in_default.not-Quit q, λ q. c.in_default.not-Store q) c.in-Ok.ensures.reply c.in-Ok.ensures.known c.in-Ok.ensures.stays_ended
           (written (g.W.Sink.told c.loop-error.output) (g.W.Sink.told c.write.new.output) c.deref.result.now c.in-Ok.reply.items c.deref.ensures.value c.in-Ok-write.ensures.ok);
+      drafted = c.in-Ok.ensures.drafted;
       writable = λ w. c.in-Ok.ensures.writable (c.loop-error.invariant.writable w);
-      sent = λ w. sent_reply c.args.desk.now c.loop-error.desk (known_come c.args.intake.now (g.S.Source.left c.args.input.now)) c.loop-error.intake c.next_order.new.intake (g.S.Source.left c.loop-error.input) (g.S.Source.left c.next_order.new.input) (g.W.Sink.told c.args.output.now) (g.W.Sink.told c.loop-error.output) c.loop-error.invariant.way (c.loop-error.invariant.sent w) c.reply_to.new.desk _ c.in-Ok-Some.order c.in-Ok.reply.items c.reply_to.new.intake (g.S.Source.left c.reply_to.new.input) c.in-Ok-Some.field-0-is c.in-Ok-Some.ensures.next
+      sent = λ w. sent_reply (seated c.args.desk.now) (seat_of c.loop-error.desk c.loop-error.draft) (known_come c.args.intake.now (g.S.Source.left c.args.input.now)) c.loop-error.intake c.next_order.new.intake (g.S.Source.left c.loop-error.input) (g.S.Source.left c.next_order.new.input) (g.W.Sink.told c.args.output.now) (g.W.Sink.told c.loop-error.output) c.loop-error.invariant.way (c.loop-error.invariant.sent w) (seat_of c.reply_to.new.desk c.reply_to.new.draft) _ c.in-Ok-Some.order c.in-Ok.reply.items c.reply_to.new.intake (g.S.Source.left c.reply_to.new.input) c.in-Ok-Some.field-0-is c.in-Ok-Some.ensures.next
           c.in-Ok-Some.ensures.known (λ q. c.in_default.not-Quit q, λ q. c.in_default.not-Store q) c.in-Ok.ensures.reply (c.in-Ok.ensures.sent (c.loop-error.invariant.writable w));
       input_never_falls = omega arith;
       never_falls = omega arith;
     }
 
 pub returns-in-Ok-None-clause-sent : goal.returns-in-Ok-None-clause-sent
-returns-in-Ok-None-clause-sent g c = λ w. sent_over c.args.desk.now c.loop-error.desk (known_come c.args.intake.now (g.S.Source.left c.args.input.now)) c.loop-error.intake c.next_order.new.intake (g.S.Source.left c.loop-error.input) (g.S.Source.left c.next_order.new.input) (g.W.Sink.told c.args.output.now) (g.W.Sink.told c.loop-error.output) c.loop-error.invariant.way (c.loop-error.invariant.sent w) _ c.in-Ok-None.field-0-is c.in-Ok-None.ensures.next
+returns-in-Ok-None-clause-sent g c = λ w. sent_over (seated c.args.desk.now) (seat_of c.loop-error.desk c.loop-error.draft) (known_come c.args.intake.now (g.S.Source.left c.args.input.now)) c.loop-error.intake c.next_order.new.intake (g.S.Source.left c.loop-error.input) (g.S.Source.left c.next_order.new.input) (g.W.Sink.told c.args.output.now) (g.W.Sink.told c.loop-error.output) c.loop-error.invariant.way (c.loop-error.invariant.sent w) _ c.in-Ok-None.field-0-is c.in-Ok-None.ensures.next
 
 pub returns-in-Quit-clause-sent : goal.returns-in-Quit-clause-sent
-returns-in-Quit-clause-sent g c = λ w. sent_quit c.args.desk.now c.loop-error.desk (known_come c.args.intake.now (g.S.Source.left c.args.input.now)) c.loop-error.intake c.next_order.new.intake (g.S.Source.left c.loop-error.input) (g.S.Source.left c.next_order.new.input) (g.W.Sink.told c.args.output.now) (g.W.Sink.told c.loop-error.output) c.loop-error.invariant.way (c.loop-error.invariant.sent w) _ c.in-Ok-Some.order c.in-Ok-Some.field-0-is c.in-Ok-Some.ensures.next c.in-Quit.is
+returns-in-Quit-clause-sent g c = λ w. sent_quit (seated c.args.desk.now) (seat_of c.loop-error.desk c.loop-error.draft) (known_come c.args.intake.now (g.S.Source.left c.args.input.now)) c.loop-error.intake c.next_order.new.intake (g.S.Source.left c.loop-error.input) (g.S.Source.left c.next_order.new.input) (g.W.Sink.told c.args.output.now) (g.W.Sink.told c.loop-error.output) c.loop-error.invariant.way (c.loop-error.invariant.sent w) _ c.in-Ok-Some.order c.in-Ok-Some.field-0-is c.in-Ok-Some.ensures.next c.in-Quit.is
 
 pub returns-in-Store-clause-near : goal.returns-in-Store-clause-near
 returns-in-Store-clause-near g c = way_near _ _ _ _ _ _ _ _ _ c.loop-error.invariant.way (c.next_order.ensures.near c.loop-error.invariant.short)
@@ -121,12 +131,12 @@ returns-in-Store-clause-done g c = way_store _ _ _ _ _ _ _ _ _ (way_order _ _ _ 
 pub returns-in-Store-clause-paused : goal.returns-in-Store-clause-paused
 returns-in-Store-clause-paused g c = λ e.
     let between = way_order _ _ _ _ _ _ _ _ _ _ _ _ c.loop-error.invariant.way c.in-Ok-Some.field-0-is c.in-Ok-Some.ensures.next c.in-Ok-Some.ensures.known c.in-Ok-Some.ensures.stays_ended in
-    way_paused (answer by_parts) c.args.desk.now c.loop-error.desk (known_come c.args.intake.now (g.S.Source.left c.args.input.now)) c.in-Ok-Some.order c.next_order.new.intake (g.S.Source.left c.next_order.new.input) (g.W.Sink.told c.args.output.now) (g.W.Sink.told c.loop-error.output) between c.in-Store.is
+    way_paused (respond by_parts) (seated c.args.desk.now) (seat_of c.loop-error.desk c.loop-error.draft) (known_come c.args.intake.now (g.S.Source.left c.args.input.now)) c.in-Ok-Some.order c.next_order.new.intake (g.S.Source.left c.next_order.new.input) (g.W.Sink.told c.args.output.now) (g.W.Sink.told c.loop-error.output) between c.in-Store.is
 
 pub returns-in-Store-clause-sent : goal.returns-in-Store-clause-sent
-returns-in-Store-clause-sent g c = λ w. sent_store c.args.desk.now c.loop-error.desk (known_come c.args.intake.now (g.S.Source.left c.args.input.now)) c.loop-error.intake c.next_order.new.intake (g.S.Source.left c.loop-error.input) (g.S.Source.left c.next_order.new.input) (g.W.Sink.told c.args.output.now) (g.W.Sink.told c.loop-error.output) c.loop-error.invariant.way (c.loop-error.invariant.sent w) _ c.in-Ok-Some.order c.in-Ok-Some.field-0-is c.in-Ok-Some.ensures.next c.in-Store.is
+returns-in-Store-clause-sent g c = λ w. sent_store (seated c.args.desk.now) (seat_of c.loop-error.desk c.loop-error.draft) (known_come c.args.intake.now (g.S.Source.left c.args.input.now)) c.loop-error.intake c.next_order.new.intake (g.S.Source.left c.loop-error.input) (g.S.Source.left c.next_order.new.input) (g.W.Sink.told c.args.output.now) (g.W.Sink.told c.loop-error.output) c.loop-error.invariant.way (c.loop-error.invariant.sent w) _ c.in-Ok-Some.order c.in-Ok-Some.field-0-is c.in-Ok-Some.ensures.next c.in-Store.is
 
 pub returns-in-Ok-None-clause-done : goal.returns-in-Ok-None-clause-done
 returns-in-Ok-None-clause-done g c =
-    way_over (answer by_parts) c.args.desk.now c.loop-error.desk (known_come c.args.intake.now (g.S.Source.left c.args.input.now)) c.loop-error.intake c.next_order.new.intake (g.S.Source.left c.loop-error.input) (g.S.Source.left c.next_order.new.input) (g.W.Sink.told c.args.output.now) (g.W.Sink.told c.loop-error.output) c.loop-error.invariant.way
+    way_over (respond by_parts) (seated c.args.desk.now) (seat_of c.loop-error.desk c.loop-error.draft) (known_come c.args.intake.now (g.S.Source.left c.args.input.now)) c.loop-error.intake c.next_order.new.intake (g.S.Source.left c.loop-error.input) (g.S.Source.left c.next_order.new.input) (g.W.Sink.told c.args.output.now) (g.W.Sink.told c.loop-error.output) c.loop-error.invariant.way
     (λ k. subst (λ (o : Option Order). IsNext (to_come c.loop-error.intake (g.S.Source.left c.loop-error.input)) o c.loop-error.intake c.next_order.new.intake (g.S.Source.left c.next_order.new.input)) c.in-Ok-None.field-0-is (c.in-Ok-None.ensures.next k))

@@ -1,6 +1,6 @@
 use Rattle.std.proofs.Common.{◌≤◌, ◌-◌, ◌+◌, IsTrue, length}
 use Rattle.rls_ident.specs.declared.limits.TheConstants.{INPUT_BYTES}
-use Rattle.rls_session.specs.Answers.{answer}
+use Rattle.rls_session.specs.Seats.{IsDrafted, respond, seat_of, seated}
 use Rattle.rls_session.specs.Intake.{known_come}
 use Rattle.rls_session.specs.Sessions.{by_parts}
 use Rattle.rls_file.specs.Stored.{AreWritable}
@@ -13,9 +13,10 @@ abbrev pub invariant-loop-error : goal.invariant-loop-error
 invariant-loop-error g l = record {
   ended : IsTrue l.fn.intake.ended → IsTrue l.intake.ended;
   short : length l.intake.waiting ≤ 4096;
-  way : OnWay (answer by_parts) l.fn.desk (known_come l.fn.intake (g.S.Source.left l.fn.input)) l.desk l.intake (g.S.Source.left l.input) (g.W.Sink.told l.fn.output) (g.W.Sink.told l.output);
+  way : OnWay (respond by_parts) (seated l.fn.desk) (known_come l.fn.intake (g.S.Source.left l.fn.input)) (seat_of l.desk l.draft) l.intake (g.S.Source.left l.input) (g.W.Sink.told l.fn.output) (g.W.Sink.told l.output);
+  drafted : IsDrafted by_parts (seat_of l.desk l.draft);
   writable : AreWritable l.fn.desk.state → AreWritable l.desk.state;
-  sent : AreWritable l.fn.desk.state → AreSent l.fn.desk (known_come l.fn.intake (g.S.Source.left l.fn.input)) l.desk l.intake (g.S.Source.left l.input);
+  sent : AreWritable l.fn.desk.state → AreSent (seated l.fn.desk) (known_come l.fn.intake (g.S.Source.left l.fn.input)) (seat_of l.desk l.draft) l.intake (g.S.Source.left l.input);
   input_never_falls : g.S.Source.faults l.fn.input ≤ g.S.Source.faults l.input;
   never_falls : g.W.Sink.faults l.fn.output ≤ g.W.Sink.faults l.output;
 }

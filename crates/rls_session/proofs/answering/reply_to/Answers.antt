@@ -1,13 +1,11 @@
+use Rattle.rls_session.specs.Seats.{respond, seat_of}
 use Rattle.rls_session.specs.Sessions.{by_parts}
 use Rattle.rls_session.proofs.Found.{order_near, order_replied}
-use Rattle.rls_session.proofs.Writable.{answered_writable}
 use Rattle.rls_session.proofs.answering.reply_to.Goals as goal
 
 pub returns-in-Ok-clause-reply : goal.returns-in-Ok-clause-reply
-returns-in-Ok-clause-reply g c = order_replied by_parts c.args.desk.now c.answer.new.self c.args.intake.now (g.S.Source.left c.args.input.now) c.args.order c.in-Ok.reply.items c.in_default.not-Take c.in-Ok.ensures.answered
-
-pub returns-in-Ok-clause-writable : goal.returns-in-Ok-clause-writable
-returns-in-Ok-clause-writable g c = λ w. answered_writable c.args.desk.now c.answer.new.self c.args.order c.in-Ok.reply.items c.in-Ok.ensures.answered w
+returns-in-Ok-clause-reply g c =
+    order_replied (respond by_parts) (seat_of c.args.desk.now c.args.draft.now) (seat_of c.answer.new.desk c.answer.new.draft) c.args.intake.now (g.S.Source.left c.args.input.now) c.args.order c.in-Ok.reply.items c.in_default.not-Take c.in-Ok.ensures.answered
 
 pub returns-in-Ok-clause-near : goal.returns-in-Ok-clause-near
 returns-in-Ok-clause-near g c = λ few. order_near c.args.order c.args.intake.now (g.S.Source.left c.args.input.now) few
