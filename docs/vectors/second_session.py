@@ -1,6 +1,8 @@
 """Sessions of the second implementation, from docs/SESSION.md, docs/UNDO.md and section 13 of docs/PROTOCOL.md. It counts no bytes of input."""
 import bisect
 
+MOST_DRAFT = 4096                               # characters of a draft, and characters that it takes out
+
 
 def escaped(text):
     return text.replace("\\", "\\\\").replace("\n", "\\n").replace("\r", "\\r")
@@ -13,6 +15,7 @@ class Session:
         self.back, self.again, self.is_open = [], [], False
         self.epoch, self.names, self.labels = rep.greatest(), [], {}
         self.cursors, self.telling, self.lines = {0: None}, False, []
+        self.shown = None                       # with a draft: the text that is shown, a list of places of the replica's text and of new characters
         rep.apply = self.watched(rep.apply)
 
     # what changes
@@ -152,6 +155,86 @@ class Session:
                 target.append(made)
         return f"{word} {count}"
 
+    # e
+
+    def draft(self):
+        """at, count and text of the draft that a list of what is shown says; None if it says nothing"""
+        if self.shown is None:
+            return None
+        kept = {x for x in self.shown if isinstance(x, int)}
+        gone = [k for k in range(len(self.rep.ids)) if k not in kept]
+        new = [k for k, x in enumerate(self.shown) if isinstance(x, str)]
+        if not gone and not new:
+            return None
+        return (gone or new)[0], len(gone), "".join(self.shown[k] for k in new)
+
+    def plan(self, at, count, text):
+        """The edits that a draft means, the insertion first"""
+        S, rep = self.S, self.rep
+
+        def tuples(pos):
+            try:
+                o = rep.made((S.INSERT, pos, text))
+            except S.Refused:
+                return None
+            return len(o.first) if o.first[-1][3] != o.seq else None
+        if not count:
+            return [(S.INSERT, at, text)]
+        if not text:
+            return [(S.DELETE, at, count)]
+        before, after = tuples(at), tuples(at + count)
+        if before is not None and (after is None or before < after):
+            return [(S.INSERT, at, text), (S.DELETE, at + len(text), count)]
+        return [(S.INSERT, at + count, text), (S.DELETE, at, count)]
+
+    def check(self, at, count, text):
+        """Refused, if its edits can't be made"""
+        if count:
+            self.rep.made((self.S.DELETE, at, count))
+        if text or not count:
+            self.rep.made(self.plan(at, count, text)[0])
+        if count and text and self.rep.vector[self.rep.me] + 1 >= self.S.M32:
+            raise self.S.Refused("numbers spent")
+
+    def make(self):
+        draft, self.shown = self.draft(), None
+        if draft:
+            for edit in self.plan(*draft):
+                self.edit(edit)
+            self.rep.release([])
+
+    def change(self, at, count, text):
+        draft, old = self.draft(), self.shown
+        if draft and (count or text) and at + count <= len(old) and at <= draft[0] + len(draft[2]) and draft[0] <= at + count:
+            self.shown = old[:at] + list(text) + old[at + count:]
+            now = self.draft()
+            try:
+                if now is None:
+                    return "ok"
+                if now[1] <= MOST_DRAFT and len(now[2]) <= MOST_DRAFT:
+                    self.check(*now)
+                    return "ok"
+            except self.S.Refused:
+                pass
+            self.shown = old
+        self.make()
+        self.check(at, count, text)
+        text_now = list(range(len(self.rep.ids)))
+        self.shown = text_now[:at] + list(text) + text_now[at + count:]
+        return "ok"
+
+    def change_of(self, raw):
+        """POS, COUNT and TEXT of a line `e`; None if it is none"""
+        try:
+            word, _, rest = raw.decode().partition(" ")
+        except UnicodeDecodeError:
+            return None
+        place, _, rest = rest.partition(" ")
+        line = self.S.parse_line(b"i " + rest.encode())
+        if word != "e" or self.S.number(place) is None or line is None or line[0] != self.S.INSERT:
+            return None
+        return self.S.number(place), line[1], line[2]
+
     # cursors
 
     def place(self, cursor):
@@ -226,6 +309,13 @@ class Session:
     def answer(self, raw, read):
         """The reply to a line; None if the input ended within a message"""
         S, rep = self.S, self.rep
+        change = self.change_of(raw)
+        if change is not None:
+            try:
+                return f"{self.change(*change)}\n".encode()
+            except S.Refused as e:
+                return f"no {e.why}\n".encode()
+        self.make()
         line = S.parse_line(raw)
         if line is not None:
             return self.told(lambda: self.edit(line))
@@ -260,6 +350,8 @@ class Session:
         S, rep = self.S, self.rep
         if alone and word == "v":
             return "version 2"
+        if word == "v" and rest in ("1", "2", "3"):
+            return f"version {rest}"
         if alone and word == "g":
             self.is_open = False
             return f"groups {len(self.back)} {len(self.again)}"
@@ -296,6 +388,7 @@ def serve(second, rep, source, write, save):
         if raw == b"" or line == b"q":
             break
         if line == b"w":
+            session.make()
             save()
             del session.entries[:-10000]
             reply = b"saved\n"
@@ -304,5 +397,6 @@ def serve(second, rep, source, write, save):
         write(b"bad\n" if reply is None else reply)
         if reply is None:
             break
+    session.make()
     save()
     write(b"saved\n")
