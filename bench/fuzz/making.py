@@ -34,6 +34,13 @@ class Maker:
         kind = self.draw.choices("idbrx", (8, 5, 1, 1, 0.4))[0]
         return {"kind": kind, "at": self.place(), "count": self.draw.choice((1, 1, 1, 2, 3, 7, 1000)), "text": self.text() if kind == "i" else ""}
 
+    def change(self):
+        """A change of the editor: mostly at the one before it, as somebody types and takes back; a few are refused."""
+        kind = self.draw.choices(("on", "back", "near", "place", "wrong"), (8, 5, 3, 2, 0.3))[0]
+        count = 0 if kind == "on" else self.draw.choice((0, 1, 1, 2, 3, 5000))
+        text = "" if kind == "back" else self.text() if self.draw.random() < 0.8 or not count else ""
+        return {"kind": kind, "at": self.place(), "count": count, "text": text}
+
     def place(self):
         # At an end, or anywhere.
         return self.draw.choice((0, -1, self.draw.randrange(10**6)))
@@ -51,13 +58,15 @@ class Maker:
 
     def requests(self):
         back = 0 if self.is_single else 3
-        kinds = {"edit": 8, "undo": back, "back": back, "again": back, "groups": 1, "cursor": 1.5, "where": 1.5, "text": 1, "take": 2, "send": 1,
+        kinds = {"edit": 8, "typed": 8, "undo": back, "back": back, "again": back, "groups": 1, "cursor": 1.5, "where": 1.5, "text": 1, "take": 2, "send": 1,
                  "tell": 2.5, "store": 0.7, "stat": 0.3, "version": 0.2, "bad": 0.3}
         return [self.request(self.draw.choices(list(kinds), list(kinds.values()))[0]) for _ in range(self.draw.choice((1, 3, 6, 12, 25)))]
 
     def request(self, kind):
         if kind == "edit":
             return {"ask": kind, "edit": self.edit()}
+        if kind == "typed":
+            return {"ask": kind, "changes": [self.change() for _ in range(self.draw.choice((1, 2, 4, 10)))]}
         if kind == "take":
             return {"ask": kind, "message": self.known()}
         if kind == "send":

@@ -5,7 +5,7 @@ import subprocess
 
 from replies import Replies, Wrong
 
-# A line for each request of the session's second version, and which of them a program knows.
+# A line for each request of the session's second version; and which of them a program knows, and whether it knows `e` of the third.
 NEWER = ("v", "w", "n", "c 0", "z", "y", "g", "k 0 1", "j 0", "p 1", "a 0")
 KNOWN = {}
 
@@ -128,6 +128,8 @@ class Member:
             KNOWN[self.program] = {line.split(" ")[0] for line in NEWER if self.answer(line) != "bad"}
             if "v" in KNOWN[self.program] and len(KNOWN[self.program]) < len(NEWER):
                 raise Wrong(f"a session says that it knows the second version, and answers `bad` to all but {KNOWN[self.program]}")
+            if self.answer("v 3") == "version 3":
+                KNOWN[self.program].add("e")
         self.known = KNOWN[self.program]
 
     def lines(self, edits):

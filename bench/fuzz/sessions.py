@@ -1,10 +1,14 @@
 """A session of a member: the requests of a game, what is known of each reply before it comes, and what is looked at when it is there.
 
-Requests of the session's second version are asked of an older program too, which answers `bad` to them."""
+Requests of the session's second version are asked of an older program too, which answers `bad` to them.
+
+What an editor typed and is no operation yet is kept as the text that is shown: a list whose members are places of the replica's text, and
+characters that are new. The program keeps a place, a count and a text, and merges these."""
 from members import ESCAPES, performed, placed, spelled
 from replies import Replies, Wrong
 
 MEANT = {escape: character for character, escape in ESCAPES.items()}
+MOST_DRAFT = 4096
 STAT = ["group", "me", "members", "accepted", "total", "runs", "held", "unstable", "epochs", "former"]
 
 
@@ -46,11 +50,26 @@ class Session:
         self.text = self.before = member.text()
         self.back, self.again, self.is_open = [], [], False
         self.cursors = {0: 0}
+        # With a draft: the text that is shown, by places of the replica's text and new characters; and where the last change ended.
+        self.view, self.end = None, 0
         self.tells = self.stores = False
         self.given, self.looks = b"", []
 
     def ask(self, request):
+        if request["ask"] != "typed":
+            self.make()
         getattr(self, "ask_" + request["ask"])(request)
+
+    def make(self):
+        """The draft becomes edits: steps of the open group, unless it came to nothing."""
+        if self.view is not None and self.view != list(range(len(self.text))):
+            shown = self.shown_text()
+            self.record()
+            self.text, self.cursors = shown, {cursor: None for cursor in self.cursors}
+        self.view = None
+
+    def shown_text(self):
+        return "".join(self.text[part] if isinstance(part, int) else part for part in self.view)
 
     def send(self, line, look, changes=False):
         """Adds a request and how its reply is looked at; `changes` says that it may change the text."""
@@ -90,6 +109,76 @@ class Session:
             if line[0] != "r":
                 self.record()
             self.text, self.cursors = after, {cursor: None for cursor in self.cursors}
+
+    def ask_typed(self, request):
+        for change in request["changes"]:
+            if "e" not in self.member.known:
+                self.send("e 0 0 a\n", lambda replies: self.exactly(replies, "bad"))
+            elif self.text is None:
+                self.type_blindly(change)
+            else:
+                self.type(change)
+
+    def type_blindly(self, change):
+        """Where a message may have changed the text: what is known then is what comes back to the client."""
+        at, count, text = change["at"] % 7, change["count"], change["text"]
+
+        def look(replies):
+            line = replies.line()
+            need(line == "ok" or line.startswith("no "), line, "ok or no")
+            if line == "ok" and self.shown is not None:
+                need(at + count <= len(self.shown), line, f"a change within {len(self.shown)} characters")
+                self.shown = self.shown[:at] + text + self.shown[at + count :]
+
+        self.send(f"e {at} {count} {spelled(('i', 0, 0, text))[4:]}\n", look)
+        self.back = None
+
+    def placed_change(self, change, total):
+        kind, at, count, text = change["kind"], change["at"], change["count"], change["text"]
+        end = min(self.end, total)
+        if kind == "on":
+            at = end
+        elif kind == "back":
+            at, count = max(end - max(count, 1), 0), min(end, max(count, 1))
+        elif kind == "near":
+            at = min(max(end + at % 7 - 3, 0), total)
+        elif kind == "wrong":
+            return at % (total + 2), total + 1 + count, text
+        else:
+            at = total if at < 0 else at % (total + 1)
+        return at, min(count, total - at), text
+
+    def type(self, change):
+        shown = self.view if self.view is not None else list(range(len(self.text)))
+        at, count, text = self.placed_change(change, len(shown))
+        why = "left" if self.member.has_left else "empty edit" if not count and not text else f"range {at} {len(shown)}" if at + count > len(shown) else None
+        if why:
+            # A change that doesn't fit makes the draft before it all the same.
+            self.make()
+        else:
+            self.view = self.joined(shown, at, count, text)
+            self.end = at + len(text)
+        seen = None if why else self.shown_text()
+
+        def look(replies):
+            self.exactly(replies, f"no {why}" if why else "ok")
+            self.shown = self.shown if why else seen
+
+        self.send(f"e {at} {count} {spelled(('i', 0, 0, text))[4:]}\n", look)
+
+    def joined(self, shown, at, count, text):
+        """What is shown after a change; if it doesn't go on with the draft, that is made first."""
+        new = [place for place, part in enumerate(shown) if isinstance(part, str)]
+        gone = sorted(set(range(len(self.text))) - set(part for part in shown if isinstance(part, int)))
+        if new or gone:
+            begin, end = (new[0], new[-1] + 1) if new else (gone[0], gone[0])
+            after = shown[:at] + list(text) + shown[at + count :]
+            most = max(len(after) - sum(isinstance(part, int) for part in after), len(self.text) - sum(isinstance(part, int) for part in after))
+            if at <= end and begin <= at + count and most <= MOST_DRAFT:
+                return after
+            self.make()
+            shown = list(range(len(self.text)))
+        return shown[:at] + list(text) + shown[at + count :]
 
     def record(self):
         if self.back is not None and not self.is_open:
@@ -156,6 +245,7 @@ class Session:
 
     def ask_version(self, _):
         self.newer("v\n", lambda replies: self.exactly(replies, "version 2"))
+        self.send("v 3\n", lambda replies: self.exactly(replies, "version 3" if "e" in self.member.known else "bad"))
 
     def ask_store(self, _):
         self.stores |= self.newer("w\n", lambda replies: self.exactly(replies, "saved"))
@@ -212,6 +302,7 @@ class Session:
 
     def hold(self, end, piece):
         """Has the conversation, and returns the messages that may be handed on: those of a session that stored."""
+        self.make()
         self.ask_text({})
         files = self.member.files()
         output = self.member.talk(self.given, end, piece)
