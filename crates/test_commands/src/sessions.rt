@@ -106,7 +106,7 @@ const ROWS: &[&str] = &[
     "k 3\ni 0 A\nw\np\nu\nt\n | cursor 3\nok 2\nsaved\ncursor 4\nundone 1 1\ntext 5\nhello\nsaved\n | other",
     "d 1 3\nr\nw\ni 2 x\nw\nu\nu\nt\n | ok 2\nok 3\nsaved\nok 4\nsaved\nundone 1 1\nundone 1 3\ntext 5\nhello\nsaved\n | other",
     "m 2\nw\nw\nm 9\nw\n | no malformed at 0\nsaved\nbad\nsaved\n | same",
-    "v\nv \nv 2\nV\n | version 2\nbad\nbad\nbad\nsaved\n | same",
+    "v\nv \nV\n | version 2\nbad\nbad\nsaved\n | same",
     // The numbers, as `stat` prints them.
     "n\nn 1\nn | stat 87\ngroup 7\nme 0\nmembers 2\naccepted 1 0\ntotal 5\nruns 1\nheld 0\nunstable 1\nepochs 1\nformer 0\n\nbad\nstat 87\ngroup 7\nme 0\nmembers 2\naccepted 1 0\ntotal 5\nruns 1\nheld 0\nunstable 1\nepochs 1\nformer 0\n\nsaved\n | same",
     "r\nd 0 1\nw\nn\n | ok 2\nok 3\nsaved\nstat 87\ngroup 7\nme 0\nmembers 2\naccepted 3 0\ntotal 4\nruns 1\nheld 0\nunstable 3\nepochs 2\nformer 5\n\nsaved\n | other",
@@ -136,6 +136,29 @@ const ROWS: &[&str] = &[
     // Places as words, here and from elsewhere: of a character that never came, and of an epoch that isn't known.
     "a 0\na 3\na 6\nl beginning\nl after:origin:2147483647.0.1.2\nl before:origin:2147483647.0.1.2\nl after:origin:2147483647.9.9.9\nl after:0.9:1.1.1.1\nl after:origin:2147483647.0.1.2 \nl\na x\n | anchor beginning\nanchor after:origin:2147483647.0.1.2\nno range 6 5\ncursor 0\ncursor 3\ncursor 2\ncursor 5\nno epoch\nbad\nbad\nbad\nsaved\n | same",
     "r\na 3\nl after:0.2:2147483647.0.2.2\nl after:origin:2147483647.0.1.2\ni 0 A\nl after:origin:2147483647.0.1.2\n | ok 2\nanchor after:0.2:2147483647.0.2.2\ncursor 3\ncursor 3\nok 3\ncursor 4\nsaved\n | other",
+    // The versions of the protocol.
+    "v 3\nv 1\nv 2\nv 4\nv 0\nv x\nv \nv\n | version 3\nversion 1\nversion 2\nbad\nbad\nbad\nbad\nversion 2\nsaved\n | same",
+    // Changes of an editor: one, at the end without a line feed; and what comes to nothing.
+    "e 4 1 X\nt\n | ok\ntext 5\nhellX\nsaved\n | other",
+    "e 0 1 J | ok\nsaved\n | other",
+    "e 5 0 !\ne 6 0 ?\ne 6 1 \ne 5 1 \nz\n | ok\nok\nok\nok\nno nothing\nsaved\n | same",
+    // They go on with each other, but not over a store, nor elsewhere.
+    "e 4 1 \ne 3 1 \ne 3 0 p\nt\n | ok\nok\nok\ntext 4\nhelp\nsaved\n | other",
+    "e 4 1 \nw\ne 4 0 p\nt\n | ok\nsaved\nok\ntext 5\nhellp\nsaved\n | other",
+    "e 5 0 !\ne 0 0 A\nn\n | ok\nok\nstat 87\ngroup 7\nme 0\nmembers 2\naccepted 3 0\ntotal 7\nruns 1\nheld 0\nunstable 3\nepochs 1\nformer 0\n\nsaved\n | other",
+    "e 2 0 XYZ\ne 3 1 pq\nt\ne 1 5 Q\nt\n | ok\nok\ntext 9\nheXpqZllo\nok\ntext 5\nhQllo\nsaved\n | other",
+    // Refused, and lines that are none of them; what is shown is as before.
+    "e 6 0 a\ne 5 1 a\ne 9 1 \ne 0 18446744073709551615 a\ne 0 0 \ne 0 1\ne 0\ne\ne 01 1 a\ne 0 1 \\q\n | no range 6 5\nno range 5 5\nno range 9 5\nno range 0 5\nno empty edit\nbad\nbad\nbad\nbad\nbad\nsaved\n | same",
+    "e 5 0 !\ne 7 0 a\ne 6 1 a\ne 0 0 \nt\n | ok\nno range 7 6\nno range 6 6\nno empty edit\ntext 6\nhello!\nsaved\n | other",
+    // Told changes have nothing of them; to steps and entries they are what is made of them.
+    "c 1\ne 5 0 !\ne 0 1 J\ni 1 u\nz\ny\n | telling 1\nok\nok\nok 5\nchanges 1\ni 1 u\nback 4\nchanges 4\nd 1 1\ni 1 h\nd 0 1\nd 5 1\nagain 4\nchanges 4\ni 5 !\ni 0 J\nd 1 1\ni 1 u\nsaved\n | other",
+    "e 4 1 X\nz\ny\nt\n | ok\nback 2\nagain 2\ntext 5\nhellX\nsaved\n | other",
+    "e 4 1 X\nu\nu\nu\nt\n | ok\nundone 1 1\nundone 1 1\nno nothing\ntext 5\nhello\nsaved\n | other",
+    "i 5 !\nz\ne 5 0 X\ne 5 1 \ny\ne 6 0 ?\ng\ne 7 0 .\ng\nz\nz\n | ok 2\nback 1\nok\nok\nagain 1\nok\ngroups 2 0\nok\ngroups 3 0\nback 1\nback 1\nsaved\n | other",
+    // Before cursors and places, and at the end of the input.
+    "e 5 0 !\nk 6\ne 0 0 A\np\na 7\n | ok\ncursor 6\nok\ncursor 7\nanchor after:origin:2147483647.0.1.5\nsaved\n | other",
+    "e 5 0 !\nm 9\nabc | ok\nbad\nsaved\n | other",
+    "e 5 0 \\n\\\\\\r\nt\n | ok\ntext 8\nhello\n\\\r\nsaved\n | other",
     // An undo and a cursor over two renames.
     "k 3\ni 1 XY\nr\nr\np\nu\np\nr\np\nu\nt\n | cursor 3\nok 2\nok 3\nok 4\ncursor 5\nundone 1 2\ncursor 3\nok 6\ncursor 3\nno nothing\ntext 5\nhello\nsaved\n | other",
 ];
