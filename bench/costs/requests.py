@@ -78,5 +78,24 @@ def step_again(n):
     return [*text, line("g"), line("i", n // 2, "b"), line("g"), *[line("z"), line("y")] * n]
 
 
+def typed(n):
+    """n keys of an editor at the end of a text, each sixth a character that is taken back; after each 15 keys somebody asks where the cursor is,
+    so that an operation is made of them."""
+    requests, at = [], 0
+    for key in range(n):
+        taken = key % 6 == 5
+        at -= taken
+        requests.append(line("e", at, int(taken), "" if taken else "a"))
+        at += not taken
+        if key % 15 == 14:
+            requests.append(line("p"))
+    return requests
+
+
+def replaced(n):
+    """A text of n lines, in each of which an editor puts two characters in place of one."""
+    return [line("i", 0, "ab\\n" * n), *[line("e", 4 * k + 1, 1, "cd") for k in range(n)], line("w")]
+
+
 if __name__ == "__main__":
     sys.stdout.buffer.write(b"".join(globals()[sys.argv[1]](int(sys.argv[2]))))

@@ -20,7 +20,7 @@ rows=(
   small_renames:500:23 wide:25:23 scattered:20000:23 scattered_each:250:23
   renamed_file:25:23 back:250:23 rename:20000:23 members:16:23
   marks:250:23 flags:250:42:450 cursor_renames:500:23 undo_renames:500:23 step_again:500:23 acked_refused:500:23 acked_gone:100:23 acked_each:100:23
-  acked_sends:1000:23
+  acked_sends:1000:23 typed:2000:23 replaced:500:23
 )
 
 # Beside each row of `take` one of what its changes cost: the same message, taken with what it changes (bench/changes.rt.in). The factor of
@@ -28,7 +28,7 @@ rows=(
 for entry in "${rows[@]}"; do
   case $entry in
     deep:* | renamed_file:* | back:* | rename:* | members:*) ;;
-    marks:* | flags:* | cursor_renames:* | undo_renames:* | step_again:* | acked_*) ;;
+    marks:* | flags:* | cursor_renames:* | undo_renames:* | step_again:* | acked_* | typed:* | replaced:*) ;;
     *)
       IFS=: read -r name least most why <<<"$entry"
       rows+=("changes_$name:$least:$most:${why//[0-9]/}")
@@ -199,7 +199,7 @@ members() {
 work_of() {
   case $1 in
     gone_renamed | chain | deep | renamed_file | back | rename | members) "$1" "$2" ;;
-    marks | flags | cursor_renames | undo_renames | step_again | acked_*) held "$1" "$2" ;;
+    marks | flags | cursor_renames | undo_renames | step_again | acked_* | typed | replaced) held "$1" "$2" ;;
     changes_*) changes "${1#changes_}" "$2" ;;
     *) taken "$1" "$2" ;;
   esac
