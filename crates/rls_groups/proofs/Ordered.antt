@@ -15,6 +15,8 @@ use Rattle.rls_model.proofs.HistoryNumbers.{front_me, front_ops, op_front}
 use Rattle.rls_model.proofs.OneOrder as order
 use Rattle.rls_model.proofs.WorldsGathered.{one_history}
 use Rattle.rls_model.proofs.WorldsInvariant.{IsGood, made_front}
+use Rattle.rls_passages.proofs.Apart as passages
+use Rattle.rls_passages.proofs.Worlds.{good_made}
 use Rattle.rls_top.proofs.Groups.{moment}
 use Rattle.rls_groups.specs.Events.{Event}
 use Rattle.rls_groups.specs.Groups.{InOneOrder, IsHeld, WasHeld}
@@ -52,6 +54,7 @@ module _ (g n : ℕ) (l : Life) (w : World) (x : Lives g n l w) where
           all = M;
           legal = all.0;
           total = law.0;
+          apart = passages.law M all.0 (good_made w M good all);
           moments = λ before after i e few.
               let r = each before after e in
               let now = lived_all (begun g n) before in

@@ -16,6 +16,7 @@ use Rattle.rls_model.specs.Legal.{IsLegal}
 use Rattle.rls_model.specs.Receiving.{State, accept}
 use Rattle.rls_model.specs.Taking.{take_message}
 use Rattle.rls_model.specs.WellFormed.{IsEdit, IsLarge}
+use Rattle.rls_passages.specs.Passages.{Apart}
 use Rattle.rls_seen.specs.Seen.{Seen, vector}
 use Rattle.rls_undo.specs.Undoing.{last_of}
 use Rattle.rls_report.specs.declared.failures.CommandError.{CommandError}
@@ -154,12 +155,14 @@ pub record IsMoment (group members : ℕ) (now end : Life) (M : History) (i : �
   pub goes_on : (u : State) × IsHeld end i u × GoesOn state u
 
 -- One total order of all characters: at each moment each member's file stands for a history of that member, which shows its characters in
--- this order, and which stays the beginning of its later ones. Each operation was made by an edit of its author. Each edit does to the list
--- of characters what was asked, and a deletion deletes, wherever it is known, just what was asked.
+-- this order, and which stays the beginning of its later ones. Passages that were written apart stand apart in it. Each operation was made by
+-- an edit of its author. Each edit does to the list of characters what was asked, and a deletion deletes, wherever it is known, just what was
+-- asked.
 pub record InOneOrder (group members : ℕ) (es : List Event) (l : Life) : Type 0 where
   pub all : History
   pub legal : IsLegal all
   pub total : IsTotalOrder (precedes all) (λ c. IsIn c (chars all))
+  pub apart : Apart all
   pub moments : (before after : List Event) (i : ℕ) → before ++ after ≡ es → i < members → IsMoment group members (lived_all (begun group members) before) l all i
   pub made_by_edits : (i : ℕ) (t : State) (o : Op) → IsHeld l i t → IsIn o (ops t.history) → (H : History) × (edit : model.Edit) × WasHeld l o.author (edited H edit) × IsEdit edit × (edit_fault H edit ≡ None) × (made H edit ≡ o)
   pub edits : (i : ℕ) (H : History) (edit : model.Edit) (cs : List Character) → IsEdit edit → edit_fault H edit ≡ None → WasHeld l i (edited H edit) → Shows (precedes all) H cs → Shows (precedes all) (edited H edit) (list_after H edit cs)
