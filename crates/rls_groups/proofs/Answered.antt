@@ -1,4 +1,4 @@
--- A request of a session of a group: what it is answered, and what it makes of the member's history.
+-- A request of a session of a group, where nothing is drafted: what it is answered, and what it makes of the member's history.
 use Rattle.std.proofs.Common.{◌≡◌, ◌∙◌, ◌≤◌, ◌<◌, ◌-◌, ℕ, Bool, true, false, cond, ltb, nat_lt, zero, suc, List, [], ◌∷◌, ◌++◌, length, Option, Some, None, Result, Ok, Err, is_some, refl, sym, ap, subst, inl, inr}
 use Rattle.std.specs.Prelude.{◌&&◌, ◌==◌, codes, encode_utf8_all}
 use Rattle.std.proofs.lemmas.List.{append-nil}
@@ -60,6 +60,7 @@ use Rattle.rls_session.specs.Answers as answers
 use Rattle.rls_session.specs.Courses.{Answered}
 use Rattle.rls_session.specs.Replies.{again_text, back_text, bytes_text, nothing_text}
 use Rattle.rls_session.specs.Requests.{Request, Does, Takes}
+use Rattle.rls_session.specs.Seats.{seated}
 use Rattle.rls_session.specs.Sessions.{by_history, by_parts}
 use Rattle.rls_session.proofs.Given.{IsGiven}
 use Rattle.rls_session.proofs.AlikeSittings.{AreAlike, AreAlmost, IsAlike}
@@ -69,16 +70,21 @@ use Rattle.rls_session.proofs.Steps.{AreBegun, steps_begun}
 use Rattle.rls_session.proofs.Entries.{whole_at}
 use Rattle.rls_session.proofs.Whole.{last_undoable}
 use Rattle.rls_groups.specs.Events.{IsWritten, replied}
-use Rattle.rls_groups.specs.Groups.{IsAnswered, IsClean, IsStored, IsTaken, IsTextOfAll}
+use Rattle.rls_groups.specs.Groups.{IsAnswered, IsClean, IsTaken, IsTextOfAll, at_seat}
 use Rattle.rls_groups.proofs.Commands.{message_taken}
 use Rattle.rls_groups.proofs.Past.{past_same}
 use Rattle.rls_groups.proofs.Requests.{Steps}
-use Rattle.rls_groups.proofs.Staying.{Follows, follows_self, has_or_holds, is_there}
+use Rattle.rls_groups.proofs.Staying.{Follows, follows_self}
 use Rattle.rls_groups.proofs.Steps.{IsUnderway, at, edits, performs, rests, sends_on, takes}
+
+-- each request but a change, which is answered where something may be drafted
+abbrev pub IsOther : Request → Type 0
+IsOther (Does (orders.Change at n cs)) = ⊥
+IsOther r = Unit {0}
 
 -- ---- nothing is released
 
-rested_at : (t : Seen) → first_ready t ≡ None → released_all t ≡ t
+pub rested_at : (t : Seen) → first_ready t ≡ None → released_all t ≡ t
 unfolding release_over
 rested_at t e = all_done t (ap (λ o. is_some (release_of t o)) e)
 
@@ -118,11 +124,15 @@ module _ (g n : ℕ) (G : Group) (w : World) (x : Matches g n G w) (i : ℕ) (s 
   abbrev pub IsTold : List ℕ → Message → Type 0
   IsTold b m = IsMessage b m × (length b ≤ INPUT_BYTES)
 
-  abbrev pub IsDone : Sitting State → Sitting State → Request → Type 0
-  IsDone u f r = IsStored u.state f r
+  -- what the law says of it
+  abbrev pub IsCleanHere : Sitting Seen → Request → Type 0
+  IsCleanHere d r = IsClean G (seated d) r
+
+  abbrev pub IsDoneHere : Sitting State → Sitting State → Request → Type 0
+  IsDoneHere u f r = IsAnswered (seated f) r
 
   abbrev pub Stepped : Sitting Seen → Sitting State → List Message → Request → Type 0
-  Stepped d f out r = Steps (answer by_parts) (answer by_history) replied Both Later (IsWritten G) (IsClean G) IsDone IsTold d f out r
+  Stepped d f out r = Steps (answer by_parts) (answer by_history) replied Both Later (λ d r. IsWritten G r) IsCleanHere IsDoneHere IsTold d f out r
 
   -- ---- one request
 
@@ -130,24 +140,20 @@ module _ (g n : ℕ) (G : Group) (w : World) (x : Matches g n G w) (i : ℕ) (s 
     abbrev next_of : Request → State
     next_of r = ((answer by_history f r).state).state
 
-    -- what it made goes on to what is stored
-    kept : (r : Request) → IsAnswered f r → (v : Sitting State) → Later (answer by_history f r).state v → IsDone v f r
-    kept r meant v l = (((l.0).0, λ o p. has_or_holds v.state o l.1 ((l.0).1 o (is_there (next_of r) o p))), meant)
-
     -- nothing is sent
-    moved : (r : Request) → AreAlike (answer by_parts d r) (answer by_history f r) → IsUnderway g n w i (next_of r) out → Follows f.state (next_of r) → IsClean G d r → IsAnswered f r → replied d r ≡ [] → Stepped d f out r
+    moved : (r : Request) → AreAlike (answer by_parts d r) (answer by_history f r) → IsUnderway g n w i (next_of r) out → Follows f.state (next_of r) → IsCleanHere d r → IsAnswered (seated f) r → replied d r ≡ [] → Stepped d f out r
     moved r k u follows clean meant none = record {
       more = [];
       reply = k.reply;
       next = record { alike = k.states; underway = subst (IsUnderway g n w i (next_of r)) (sym (append-nil out)) u; front = front_trans s.history (f.state).history (next_of r).history b.front follows.0 };
       later = (follows, (u.storable).rest);
       clean = clean;
-      meant = kept r meant;
+      meant = λ v l. meant;
       told = λ a p. absurd (subst (λ (xs : List (List ℕ)). IsIn a xs) none p);
     }
 
     -- nothing changes
-    quiet : (r : Request) → IsGiven r → next_of r ≡ f.state → IsClean G d r → IsAnswered f r → replied d r ≡ [] → Stepped d f out r
+    quiet : (r : Request) → IsGiven r → next_of r ≡ f.state → IsCleanHere d r → IsAnswered (seated f) r → replied d r ≡ [] → Stepped d f out r
     quiet r given e clean meant none = moved r (answer_alike d f r given b.alike) (subst (λ (t : State). IsUnderway g n w i t out) (sym e) b.underway) (subst (Follows f.state) (sym e) (follows_self f.state)) clean meant none
 
     -- where waiting operations are released then, of which none is ready
@@ -156,12 +162,12 @@ module _ (g n : ℕ) (G : Group) (w : World) (x : Matches g n G w) (i : ℕ) (s 
       follows : Follows f.state t
       same : u ≡ t
 
-    rested_moves : (r : Request) (t : State) → Rested t (next_of r) → AreAlike (answer by_parts d r) (answer by_history f r) → IsClean G d r → IsAnswered f r → replied d r ≡ [] → Stepped d f out r
+    rested_moves : (r : Request) (t : State) → Rested t (next_of r) → AreAlike (answer by_parts d r) (answer by_history f r) → IsCleanHere d r → IsAnswered (seated f) r → replied d r ≡ [] → Stepped d f out r
     rested_moves r t q k clean meant none = moved r k (subst (λ (u : State). IsUnderway g n w i u out) (sym q.same) q.underway) (subst (Follows f.state) (sym q.same) q.follows) clean meant none
 
     -- what it changes is told, as far as the history goes on
     made_step : (r : Request) (e : Sitting Seen) (cs : List Change) (a : Answered (Sitting Seen)) (y : Answered (Sitting State)) → AreAlmost a y → IsUnderway g n w i (y.state).state out × Follows f.state (y.state).state
-        → (IsAtRest (y.state).state → next_of r ≡ (y.state).state) → IsGiven r → (told_rested by_parts e cs a ≡ told e cs a → IsClean G d r) → IsAnswered f r → replied d r ≡ [] → Stepped d f out r
+        → (IsAtRest (y.state).state → next_of r ≡ (y.state).state) → IsGiven r → (told_rested by_parts e cs a ≡ told e cs a → IsCleanHere d r) → IsAnswered (seated f) r → replied d r ≡ [] → Stepped d f out r
     made_step r e cs a y almost q same given clean meant none =
         let rest = ((q.0).storable).rest in
         rested_moves r (y.state).state (record { underway = q.0; follows = q.1; same = same rest }) (answer_alike d f r given b.alike) (clean (told_same e cs a (y.state).state (almost.states).stands rest)) meant none
@@ -185,7 +191,7 @@ module _ (g n : ℕ) (G : Group) (w : World) (x : Matches g n G w) (i : ℕ) (s 
         let here = ((edited by_parts d (read_line by_parts d.state line)).state).state in
         let none : all_released_changes_in t ≡ [] = sym (released_alike here t (alike.storing_is).sane alike.stands) ∙ none_changed here (first_alike here t alike.stands ∙ ((q.0).storable).rest) in
         rested_moves r t (record { underway = q.0; follows = q.1; same = still }) (answer_alike d f r ok b.alike)
-        (told_same d (made_changes (read_line by_parts d.state line)) (edited by_parts d (read_line by_parts d.state line)) t alike.stands ((q.0).storable).rest)
+        (ap at_seat (told_same d (made_changes (read_line by_parts d.state line)) (edited by_parts d (read_line by_parts d.state line)) t alike.stands ((q.0).storable).rest))
         (λ edit e. let k = subst (IsMeantWell fault_in f.state) e (line_well fault_in text_in f.state line ok) in record {
           reply = ap (λ cs. with_changes f.tells (made_changes y ++ cs) (edited by_history f y).reply) none
               ∙ (ap (λ cs. with_changes f.tells cs (edited by_history f y).reply) (append-nil (made_changes y)) ∙ ap (λ (z : Result Edit LineFault). with_changes f.tells (made_changes z) (edited by_history f z).reply) e);
@@ -226,7 +232,7 @@ module _ (g n : ℕ) (G : Group) (w : World) (x : Matches g n G w) (i : ℕ) (s 
         let e = with_caught_up by_parts d in
         let u = with_caught_up by_history f in
         let alike = caught_up_stays d f b.alike in
-        made_step r e _ _ _ (undo_almost e u alike) (undo_goes e u alike refl (last_of u.entries) refl) (λ k. rests _ k) tt (λ k. k) tt refl
+        made_step r e _ _ _ (undo_almost e u alike) (undo_goes e u alike refl (last_of u.entries) refl) (λ k. rests _ k) tt (λ k. ap at_seat k) tt refl
 
     -- ---- steps
 
@@ -252,13 +258,13 @@ module _ (g n : ℕ) (G : Group) (w : World) (x : Matches g n G w) (i : ℕ) (s 
     unfolding answer
     back_step =
         let q = turned_goes (history_begun.recorded).past back_text history_begun (back_on within f.state (history_begun.recorded)) _ refl (turned_whole parts_begun history_begun begun stays).0 ((turned_performed_in f.state (history_begun.recorded)).0).state in
-        made_step (Does orders.Back) parts_begun _ _ _ (backed_almost parts_begun history_begun begun stays) q (λ r. rests _ r) tt (λ e. e) tt refl
+        made_step (Does orders.Back) parts_begun _ _ _ (backed_almost parts_begun history_begun begun stays) q (λ r. rests _ r) tt (λ e. ap at_seat e) tt refl
 
     again_step : Stepped d f out (Does orders.Again)
     unfolding answer
     again_step =
         let q = turned_goes (history_begun.recorded).future again_text history_begun (again_on within f.state (history_begun.recorded)) _ refl (turned_whole parts_begun history_begun begun stays).1 ((turned_performed_in f.state (history_begun.recorded)).1).state in
-        made_step (Does orders.Again) parts_begun _ _ _ (redone_almost parts_begun history_begun begun stays) q (λ r. rests _ r) tt (λ e. e) tt refl
+        made_step (Does orders.Again) parts_begun _ _ _ (redone_almost parts_begun history_begun begun stays) q (λ r. rests _ r) tt (λ e. ap at_seat e) tt refl
 
     -- ---- the cursor and the text
 
@@ -334,7 +340,7 @@ module _ (g n : ℕ) (G : Group) (w : World) (x : Matches g n G w) (i : ℕ) (s 
               };
               later = subst (λ (t : State). Follows f.state t × IsAtRest t) (sym (send_same to)) (follows_self f.state, ((b.underway).storable).rest);
               clean = λ message p. reply e message (among true e message p);
-              meant = kept r tt;
+              meant = λ v l. tt;
               told = λ a p. told l a (among true e a p);
             }
 
@@ -362,14 +368,15 @@ module _ (g n : ℕ) (G : Group) (w : World) (x : Matches g n G w) (i : ℕ) (s 
 
     -- ---- all requests
 
-    pub steps : (r : Request) → IsGiven r → IsWritten G d r → Stepped d f out r
+    pub steps : (r : Request) → IsOther r → IsGiven r → IsWritten G r → Stepped d f out r
     unfolding answer
-    steps (Does (orders.Edit line)) ok given = edit_step line ok
-    steps (Does orders.Undo) ok given = undo_step
-    steps (Does orders.Back) ok given = back_step
-    steps (Does orders.Again) ok given = again_step
-    steps (Does (orders.Point side p k)) ok given = quiet (Does (orders.Point side p k)) ok (either (ltb (length (text_in f.state)) p) _ _ refl refl) tt tt refl
-    steps (Does orders.Text) ok given = quiet (Does orders.Text) ok refl text_clean tt refl
-    steps (Does (orders.Send to)) ok given = send_step to
-    steps (Does order) ok given = quiet (Does order) ok refl tt tt refl
-    steps (Takes bytes) ok given = take_step bytes ok given
+    steps (Does (orders.Edit line)) other ok given = edit_step line ok
+    steps (Does (orders.Change at n cs)) other ok given = absurd other
+    steps (Does orders.Undo) other ok given = undo_step
+    steps (Does orders.Back) other ok given = back_step
+    steps (Does orders.Again) other ok given = again_step
+    steps (Does (orders.Point side p k)) other ok given = quiet (Does (orders.Point side p k)) ok (either (ltb (length (text_in f.state)) p) _ _ refl refl) tt tt refl
+    steps (Does orders.Text) other ok given = quiet (Does orders.Text) ok refl text_clean tt refl
+    steps (Does (orders.Send to)) other ok given = send_step to
+    steps (Does order) other ok given = quiet (Does order) ok refl tt tt refl
+    steps (Takes bytes) other ok given = take_step bytes ok given

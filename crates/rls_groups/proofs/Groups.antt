@@ -25,15 +25,16 @@ use Rattle.rls_top.specs.Groups.{Group, due_of, files_with, messages_in, stored_
 use Rattle.rls_top.specs.Words.{command_of}
 use Rattle.rls_top.proofs.GroupCommands.{Leads, command_leads, kept_for}
 use Rattle.rls_top.proofs.Groups.{IsLater, IsThere, Matches, fresh_matches, matches_with, there}
-use Rattle.rls_session.specs.Answers.{answer}
-use Rattle.rls_session.specs.Courses.{holds}
+use Rattle.rls_session.specs.Courses.{course, holds}
+use Rattle.rls_session.specs.SessionLaws.{IsUnawaited}
+use Rattle.rls_session.specs.Seats.{respond, seated}
 use Rattle.rls_session.specs.Sessions.{by_parts}
 use Rattle.rls_groups.specs.Events.{AreOfGroup, Commands, Deed, Desk, Event, IsOfGroup, IsRun, Sits, after_run, at_desk, due_on, printed_of, replica_at, replied_at, replied_on, saved_of, saved_with, session_at, session_due, stored_by, stored_of}
 use Rattle.rls_groups.specs.Groups.{HasReport, IsClean, IsCommanded, IsHeld, IsMeant, IsSavedOrLong, SessionsClean}
 use Rattle.rls_groups.specs.Lives.{Life, after_deed, after_words, begun, lived, lived_all, states_run, states_with}
 use Rattle.rls_groups.proofs.Staying.{Follows, follows_self, follows_trans}
 use Rattle.rls_groups.proofs.Commands.{command_follows, comes_states, command_meant, set_at}
-use Rattle.rls_groups.proofs.Sessions.{All, EndsSo, all, asked, ends_so, found, saved_or_long}
+use Rattle.rls_groups.proofs.Sessions.{All, EndsSo, all, asked, closes, ends_so, found, last_made, saved_or_long}
 
 -- ---- what a group and a world have in common
 
@@ -163,8 +164,9 @@ module _ (g n : ℕ) (l : Life) (w : World) (x : Lives g n l w) where
     ended k (inl e) =
         let r = k.at in
         let q = k.requests in
-        let t = (q.states).underway in
-        let a = (q.states).alike in
+        let m = (closes g n l.group w x.matches i r desk input k.replica k.opens q).both in
+        let t = m.underway in
+        let a = m.alike in
         let s = ((session_at by_parts k.replica desk input).state).state in
         let u = after_deed (Sits desk input) r.state in
         let v = with_done w i u q.more in
@@ -173,7 +175,7 @@ module _ (g n : ℕ) (l : Life) (w : World) (x : Lives g n l w) where
           matches = subst (MatchesBy v) (sym (there_is k)) (subst (MatchesAt v (replied_at k.replica desk input)) (sym e.0)
               (matches_with g n l.group w x.matches i r (Some s) (replied_at k.replica desk input) u q.more t.stands (kept_for s u a.stands a.sane a.writable t.storable e.1) (λ b p. let y = q.told b p in (y.0, y.1, (y.2).0, (y.2).1))));
           states = subst (StatesBy v) (sym (there_is k)) (subst (StatesAt v) (sym e.0) (ap (λ (xs : List State). slice_set xs i u) x.states ∙ sym (set_at l.states i r.state s (after_deed (Sits desk input)) (held i r.state r.at))));
-          later = goes_with w i r.state u q.more r.at (q.later).0;
+          later = goes_with w i r.state u q.more r.at (follows_trans r.state _ u (q.later).0 (q.later).1);
         }
     ended k (inr e) = record {
       world = w;
@@ -191,16 +193,16 @@ module _ (g n : ℕ) (l : Life) (w : World) (x : Lives g n l w) where
         let k = served in
         let r = k.at in
         let q = k.requests in
-        (r.state, held i r.state r.at, (ap (λ (y : Result Seen CommandError). (due_on y desk input).replies) (there_is k) ∙ q.replies, q.meant))
+        (r.state, held i r.state r.at, (ap (λ (y : Result Seen CommandError). (due_on y desk input).replies) (there_is k) ∙ q.replies, q.meant, last_made g n l.group w x.matches i r desk input k.replica k.opens q))
 
-    pub session_cleans : (s : Seen) × (replica_at l.group i ≡ Ok s) × IsSavedOrLong (session_at by_parts s desk input) (session_due l.group i desk input).ending × holds (answer by_parts) (IsClean l.group) (at_desk s desk) input
+    pub session_cleans : (s : Seen) × (replica_at l.group i ≡ Ok s) × IsSavedOrLong (session_at by_parts s desk input) (session_due l.group i desk input).ending × let first = seated (at_desk s desk) in holds (respond by_parts) (λ b request. IsUnawaited b × IsClean l.group b request) first input × IsUnawaited (course (respond by_parts) first input).state
     session_cleans =
         let k = served in
         let c = session_at by_parts k.replica desk input in (
           k.replica,
           there_is k,
           subst (λ (y : Result Seen CommandError). IsSavedOrLong c (due_on y desk input).ending) (sym (there_is k)) (saved_or_long c (ends_so c)),
-          (k.requests).clean,
+          ((k.requests).clean, (closes g n l.group w x.matches i k.at desk input k.replica k.opens k.requests).unawaited),
         )
 
   -- ---- any run

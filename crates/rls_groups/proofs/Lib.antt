@@ -7,7 +7,9 @@ mod Requests
 mod Steps
 mod Lines
 mod Commands
+mod Making
 mod Answered
+mod Seated
 mod Sessions
 mod Groups
 mod Ordered

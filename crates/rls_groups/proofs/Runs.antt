@@ -20,13 +20,14 @@ use Rattle.rls_top.specs.Due.{Due, Makes, NoCommand, Stops, due, due_at, due_of_
 use Rattle.rls_top.specs.Endings.{IsKept, IsWritten}
 use Rattle.rls_top.specs.Groups.{Group, due_of, files_with, messages_of}
 use Rattle.rls_top.specs.Words.{command_of}
-use Rattle.rls_session.specs.Answers.{Sitting, answer, resumed, sitting_at}
+use Rattle.rls_session.specs.Answers.{sitting_at}
 use Rattle.rls_session.specs.Calls.{AreDue, AreFilesOf, IsFileOf, tried}
 use Rattle.rls_session.specs.Courses.{Course}
 use Rattle.rls_session.specs.Due as session
 use Rattle.rls_session.specs.Endings.{Ends, EndsIn, FailsAt}
 use Rattle.rls_session.specs.Endings as endings
 use Rattle.rls_session.specs.Replies.{saved_text}
+use Rattle.rls_session.specs.Seats.{Seat, closed, respond, resumed_seat, seated}
 use Rattle.rls_session.specs.Sessions.{by_parts}
 use Rattle.rls_session.proofs.Courses.{courses_end}
 use Rattle.rls_journal.proofs.Moments.{leaves_weaker}
@@ -98,7 +99,7 @@ commands_leave file_of keeper_faults load store left_of input_faults told_of out
 
 -- what a session calls for that stores at its end alone, as the group says it
 session_told : (r : Result Seen CommandError) (input : List ℕ) → IfOk r (λ s. IsFalse (session_at by_parts s empty_desk input).stores) → session.due_on (Some r) (Some input) ≡ Some (events.due_on r empty_desk input ∷ [])
-session_told (Ok s) input h = ap (λ (cs : List (Course (Sitting Seen))). Some (map session.due_of cs)) (courses_end (answer by_parts) (resumed by_parts) (sitting_at s) input h)
+session_told (Ok s) input h = ap (λ (cs : List (Course (Seat Seen))). Some (map session.due_of (map (closed by_parts) cs))) (courses_end (respond by_parts) (resumed_seat by_parts) (seated (sitting_at s)) input h)
 session_told (Err e) input h = refl
 
 session_kept : (g : Group) (i : ℕ) (now : Option (List ℕ)) (r : Result Seen CommandError) → i < length g.files → endings.IsKept r (Some (file_at g i)) (Some now) → now ≡ slice_get (files_with g.files i (saved_of r)) i

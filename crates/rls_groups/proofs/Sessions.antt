@@ -20,16 +20,19 @@ use Rattle.rls_stages.proofs.Files.{IsOpened}
 use Rattle.rls_top.specs.Groups.{Group}
 use Rattle.rls_top.proofs.GroupCommands.{opened_at}
 use Rattle.rls_top.proofs.Groups.{IsThere, Matches}
-use Rattle.rls_session.specs.Answers.{Sitting, answer}
-use Rattle.rls_session.specs.Courses.{Course}
+use Rattle.rls_session.specs.Answers.{Sitting}
+use Rattle.rls_session.specs.Courses.{Course, course}
 use Rattle.rls_session.specs.Due.{due_of}
+use Rattle.rls_session.specs.Seats.{Seat, at_work, respond, seated}
 use Rattle.rls_session.specs.Sessions.{by_history, by_parts}
+use Rattle.rls_session.proofs.AlikeSeats.{seated_alike}
 use Rattle.rls_session.proofs.Given.{IsGiven, cut_given}
-use Rattle.rls_groups.specs.Events.{Desk, IsSession, IsWritten, at_desk, replica_at, replied}
-use Rattle.rls_groups.specs.Groups.{IsClean, IsSavedOrLong}
-use Rattle.rls_groups.proofs.Answered.{Both, IsDone, IsTold, Later, steps}
+use Rattle.rls_groups.specs.Events.{Desk, IsSession, IsWritten, at_desk, replica_at, replied_from}
+use Rattle.rls_groups.specs.Groups.{IsDraftMade, IsSavedOrLong}
+use Rattle.rls_groups.proofs.Answered.{IsTold}
 use Rattle.rls_groups.proofs.Requests.{Went, went}
-use Rattle.rls_groups.proofs.Staying.{follows_self, follows_trans}
+use Rattle.rls_groups.proofs.Seated.{IsCleanFrom, IsDone, IsMadeWell, Later, Seats, drafts_made, later_self, later_trans, made_well, seat_steps}
+use Rattle.rls_groups.proofs.Staying.{follows_self}
 
 -- ---- how it ends
 
@@ -63,20 +66,37 @@ module _ (g n : ℕ) (G : Group) (w : World) (x : Matches g n G w) (i : ℕ) (r 
   begins : Stands g n (with_done w i r.state [])
   begins = subst (Stands g n) (sym (ap (λ (xs : List State). record { states = xs; sent = w.sent ++ [] }) (set_get w.states i r.state r.at) ∙ ap (λ (ms : List Message). record { states = w.states; sent = ms }) (append-nil w.sent))) x.stands
 
-  first : IsSession G s desk input → Both g n G w x i r.state r.at (at_desk s desk) (at_desk r.state desk) []
+  first : IsSession G s desk input → Seats g n G w x i r.state r.at (seated (at_desk s desk)) (seated (at_desk r.state desk)) []
   first q = record {
-    alike = record { stands = o.stands; sane = o.sane; writable = o.writable; entries = refl; cursors = refl; tells = refl; whole = q.whole; texts = q.texts; steps = record { same = refl; kept = q.kept; spelled = q.spelled } };
+    alike = seated_alike (at_desk s desk) (at_desk r.state desk)
+        (record { stands = o.stands; sane = o.sane; writable = o.writable; entries = refl; cursors = refl; tells = refl; whole = q.whole; texts = q.texts; steps = record { same = refl; kept = q.kept; spelled = q.spelled } });
     underway = record { stands = begins; storable = (r.kept).storable };
     front = front_self (r.state).history;
   }
 
   abbrev pub All : Type 0
-  All = Went (answer by_parts) (answer by_history) replied (Both g n G w x i r.state r.at) (Later g n G w x i r.state r.at) (IsWritten G) (IsClean G) (IsDone g n G w x i r.state r.at) (IsTold g n G w x i r.state r.at) 0 (at_desk s desk) (at_desk r.state desk) input []
+  All = Went (respond by_parts) (respond by_history) replied_from (Seats g n G w x i r.state r.at) (Later g n G w x i r.state r.at) (λ b r. IsWritten G r) (IsCleanFrom g n G w x i r.state r.at) (IsDone g n G w x i r.state r.at) (IsTold g n G w x i r.state r.at) 0 (seated (at_desk s desk)) (seated (at_desk r.state desk)) input []
 
   pub all : IsSession G s desk input → All
   all q =
-      went (answer by_parts) (answer by_history) replied (Both g n G w x i r.state r.at) (Later g n G w x i r.state r.at) (IsWritten G) (IsClean G) (IsDone g n G w x i r.state r.at) (IsTold g n G w x i r.state r.at)
-      (λ d f out b. (follows_self f.state, ((b.underway).storable).rest)) (λ e f u h k. (follows_trans e.state f.state u.state h.0 k.0, k.1))
+      went (respond by_parts) (respond by_history) replied_from (Seats g n G w x i r.state r.at) (Later g n G w x i r.state r.at) (λ b r. IsWritten G r) (IsCleanFrom g n G w x i r.state r.at) (IsDone g n G w x i r.state r.at) (IsTold g n G w x i r.state r.at)
+      (λ b c out k. later_self g n G w x i r.state r.at b c out k) (λ e c u h k. later_trans g n G w x i r.state r.at e c u h k)
       IsBytes IsGiven (λ b bytes c. (cut_given (b ∷ bytes) c, IsBytes-tail b bytes c))
-      (λ d f out k ok given b. steps g n G w x i r.state r.at d f out b k ok given)
-      0 (at_desk s desk) (at_desk r.state desk) input [] q.bytes q.given (first q)
+      (λ b c out y ok given k. seat_steps g n G w x i r.state r.at b c out k y ok given)
+      0 (seated (at_desk s desk)) (seated (at_desk r.state desk)) input [] q.bytes q.given (first q)
+
+  -- what is drafted at the end is made
+  abbrev pub last_here : Seat Seen
+  last_here = (course (respond by_parts) (seated (at_desk s desk)) input).state
+
+  abbrev pub last : Seat State
+  last = (course (respond by_history) (seated (at_desk r.state desk)) input).state
+
+  pub closes : (q : All) → IsMadeWell g n G w x i r.state r.at last_here last q.more
+  closes q = made_well g n G w x i r.state r.at last_here last q.more q.states
+
+  pub last_made : All → IsDraftMade (at_work by_history last).state last
+  last_made q =
+      let t = (at_work by_history last).state in
+      let rest = (((closes q).both).underway.storable).rest in
+      drafts_made g n G w x i r.state r.at last_here last q.more q.states (seated (at_work by_history last)) (follows_self t) (follows_self t, follows_self t, rest)

@@ -39,16 +39,17 @@ use Rattle.rls_top.specs.Groups.{Group, files_with}
 use Rattle.rls_top.proofs.GroupCommands.{opened_at}
 use Rattle.rls_session.specs.declared.cursors.Cursor.{Cursor}
 use Rattle.rls_session.specs.Cursors.{AreAnchored, moved}
-use Rattle.rls_session.specs.Answers.{Sitting, answer, resumed, sitting_at}
+use Rattle.rls_session.specs.Answers.{Sitting, resumed, sitting_at}
 use Rattle.rls_session.specs.Calls.{AreDue, AreFilesOf, IsFileOf, and_failed}
-use Rattle.rls_session.specs.Courses.{Course, course, course_of, stretches, stretches_within}
+use Rattle.rls_session.specs.Courses.{Course, course_of, stretches, stretches_within}
 use Rattle.rls_session.specs.Desks.{AreKept, AreUndoable, IsWhole, sitting_of}
 use Rattle.rls_session.specs.Due.{Due, due, due_of, due_on, stops}
 use Rattle.rls_session.specs.Endings.{Ends, EndsIn, EndsOn, FailsAt, IsKept}
+use Rattle.rls_session.specs.Seats.{closed, course_at, respond, resumed_seat, seated}
 use Rattle.rls_session.specs.Sessions.{by_history, by_parts}
 use Rattle.rls_session.proofs.Given.{IsGiven, cut_given}
 use Rattle.rls_session.proofs.AlikeSittings.{IsAlike}
-use Rattle.rls_session.proofs.Agreeing.{answer_alike}
+use Rattle.rls_session.proofs.AlikeSeats.{AreSeatsAlike, at_work_alike, respond_alike, seated_alike}
 use Rattle.rls_session.proofs.Alike.{resumed_alike}
 use Rattle.rls_session.proofs.Steps.{AreStepsAlike}
 use Rattle.rls_session.proofs.Courses.{IsSameCourse, courses_alike}
@@ -59,7 +60,7 @@ use Rattle.rls_groups.specs.Stops.{IsOld, LeavesInStore, LeavesInTurn}
 use Rattle.rls_journal.proofs.Moments.{leaves_both, leaves_weaker}
 use Rattle.rls_groups.specs.Events as events
 use Rattle.rls_groups.specs.Events.{Deed, Sits, after_run, at_desk, replica_at, saved_of, session_due}
-use Rattle.rls_groups.specs.Runs.{IsLeft, LeavesDeeds, StoppedStores, StoresLeave, after_deeds, deed_of, deeds_from, deeds_of, file_at}
+use Rattle.rls_groups.specs.Runs.{IsLeft, LeavesDeeds, StoppedStores, StoresLeave, after_deeds, deed_of, deeds_from, deeds_of, desk_of, file_at}
 use Rattle.rls_groups.proofs.Runs.{set_there}
 use Rattle.rls_groups.proofs.Sessions.{EndsSo, ends_so}
 
@@ -138,8 +139,10 @@ usable o u h r = record { undoable = entries_kept o _ u.entries (kept_at o u.sta
 
 -- ---- one store
 
-alike_course : (d : Sitting Seen) (u : Sitting State) (input : List ℕ) → IsBytes input → IsAlike d u → IsSameCourse IsAlike (course (answer by_parts) d input) (course (answer by_history) u input)
-alike_course d u input b h = courses_alike (answer by_parts) (answer by_history) IsAlike IsGiven IsBytes (λ d f r g k. let a = answer_alike d f r g k in (a.reply, a.states)) (λ x bytes c. (cut_given (x ∷ bytes) c, IsBytes-tail x bytes c)) 0 d u input b h
+alike_course : (d : Sitting Seen) (u : Sitting State) (input : List ℕ) → IsBytes input → IsAlike d u → IsSameCourse IsAlike (course_at by_parts d input) (course_at by_history u input)
+alike_course d u input b h =
+    let same = courses_alike (respond by_parts) (respond by_history) AreSeatsAlike IsGiven IsBytes (λ d f r g k. let a = respond_alike d f r g k in (a.reply, a.states)) (λ x bytes c. (cut_given (x ∷ bytes) c, IsBytes-tail x bytes c)) 0 (seated d) (seated u) input b (seated_alike d u h) in
+    record { replies = same.replies; used = same.used; stores = same.stores; states = at_work_alike _ _ same.states }
 
 bytes_of_state : (s : Seen) (t : State) → StandsFor s t → bytes_over s ≡ file_bytes (parts t)
 bytes_of_state s t h = ap file_bytes (parts_alike s t h)
@@ -165,10 +168,10 @@ same_bytes c k f same other is = go (ends_so c) (ends_so k)
 
 -- what comes after a stretch, of what is called for and of the deeds
 mine : ℕ → Sitting Seen → List ℕ → Bool → List Due
-mine m d input x = map due_of (map (course_of (answer by_parts)) (cond x (stretches_within (answer by_parts) (resumed by_parts) m (resumed by_parts (course (answer by_parts) d input).state) (drop (suc (course (answer by_parts) d input).used) input)) []))
+mine m d input x = map due_of (map (closed by_parts) (map (course_of (respond by_parts)) (cond x (stretches_within (respond by_parts) (resumed_seat by_parts) m (seated (resumed by_parts (course_at by_parts d input).state)) (drop (suc (course_at by_parts d input).used) input)) [])))
 
 theirs : ℕ → Sitting State → List ℕ → Bool → ℕ → List Deed
-theirs m u input x k = deeds_of (cond x (stretches_within (answer by_history) (resumed by_history) m (resumed by_history (course (answer by_history) u input).state) (drop (suc k) input)) [])
+theirs m u input x k = deeds_of (cond x (stretches_within (respond by_history) (resumed_seat by_history) m (seated (resumed by_history (course_at by_history u input).state)) (drop (suc k) input)) [])
 
 none_both : (m : ℕ) (d : Sitting Seen) (u : Sitting State) (input : List ℕ) (x : Bool) (k : ℕ) → mine m d input x ≡ [] → theirs m u input x k ≡ []
 unfolding mine theirs
@@ -187,8 +190,8 @@ there_still {i} g l deed = go (events.stored_by g i deed)
 module _ (i : ℕ) where
   -- the member's file says a replica that is alike
   stored_at : (g : Group) (l : i < length g.files) (bytes : List ℕ) (d : Sitting Seen) (u : Sitting State) (input : List ℕ) → file_at g i ≡ Some bytes → length bytes ≤ FILE_BYTES → IsFileFor bytes u.state → IsBytes input → IsAlike d u → IsRecent u
-      → (due_of (course (answer by_parts) d input)).ending ≡ Ok ((course (answer by_parts) d input).state).state
-      → Some (bytes_over ((course (answer by_parts) d input).state).state) ≡ file_at (after_run true g i (deed_of (record { state = u; input = input }))) i
+      → (due_of (course_at by_parts d input)).ending ≡ Ok ((course_at by_parts d input).state).state
+      → Some (bytes_over ((course_at by_parts d input).state).state) ≡ file_at (after_run true g i (deed_of (record { state = seated u; input = input }))) i
   stored_at g l bytes d u input at short stands b h r is = saved ∙ sym (there (replica_at g i) found)
     where
       o : (s : Seen) × IsOpened bytes u.state s
@@ -197,7 +200,7 @@ module _ (i : ℕ) where
       found : replica_at g i ≡ Ok o.0
       found = ap (λ (k : Option (List ℕ)). replica_in (loaded k)) at ∙ opened_at bytes o.0 short o.1.found
 
-      same : IsSameCourse IsAlike (course (answer by_parts) d input) (course (answer by_history) u input)
+      same : IsSameCourse IsAlike (course_at by_parts d input) (course_at by_history u input)
       same = alike_course d u input b h
 
       mine : Sitting Seen
@@ -206,17 +209,17 @@ module _ (i : ℕ) where
       recorded : AreStepsAlike o.0 u.recorded u.recorded
       recorded = record { same = refl; kept = names_kept o.0 _ _ (u.recorded).names (kept_at o.0 u.state o.1.stands) r.named; spelled = subst steps.IsWhole (h.steps).same (h.steps).spelled }
 
-      other : IsSameCourse IsAlike (course (answer by_parts) mine input) (course (answer by_history) u input)
+      other : IsSameCourse IsAlike (course_at by_parts mine input) (course_at by_history u input)
       other = alike_course mine u input b (record { stands = o.1.stands; sane = o.1.sane; writable = o.1.writable; entries = refl; cursors = refl; tells = refl; whole = usable o.0 u o.1.stands r; texts = subst AreWhole h.entries h.texts; steps = recorded })
 
-      saved : Some (bytes_over ((course (answer by_parts) d input).state).state) ≡ Some (bytes_over ((course (answer by_parts) mine input).state).state)
-      saved = ap (λ (x : List ℕ). Some x) (bytes_of_state _ ((course (answer by_history) u input).state).state (same.states).stands ∙ sym (bytes_of_state _ ((course (answer by_history) u input).state).state (other.states).stands))
+      saved : Some (bytes_over ((course_at by_parts d input).state).state) ≡ Some (bytes_over ((course_at by_parts mine input).state).state)
+      saved = ap (λ (x : List ℕ). Some x) (bytes_of_state _ ((course_at by_history u input).state).state (same.states).stands ∙ sym (bytes_of_state _ ((course_at by_history u input).state).state (other.states).stands))
 
-      ending : (due_of (course (answer by_parts) mine input)).ending ≡ Ok ((course (answer by_parts) mine input).state).state
-      ending = same_bytes (course (answer by_parts) d input) (course (answer by_parts) mine input) (course (answer by_history) u input) same other is
+      ending : (due_of (course_at by_parts mine input)).ending ≡ Ok ((course_at by_parts mine input).state).state
+      ending = same_bytes (course_at by_parts d input) (course_at by_parts mine input) (course_at by_history u input) same other is
 
-      there : (x : Result Seen CommandError) → x ≡ Ok o.0 → slice_get (files_with g.files i (saved_of (events.due_on x (record { entries = u.entries; cursors = u.cursors; recorded = u.recorded; tells = u.tells }) input).ending)) i ≡ Some (bytes_over ((course (answer by_parts) mine input).state).state)
-      there x e = rw (e, ending) (set_there g i ((course (answer by_parts) mine input).state).state l)
+      there : (x : Result Seen CommandError) → x ≡ Ok o.0 → slice_get (files_with g.files i (saved_of (events.due_on x (desk_of u) input).ending)) i ≡ Some (bytes_over ((course_at by_parts mine input).state).state)
+      there x e = rw (e, ending) (set_there g i ((course_at by_parts mine input).state).state l)
 
   -- what is kept after a course that is stored
   kept_at_end : (c : Course (Sitting Seen)) (f : Course (Sitting State)) (bytes : List ℕ) (now : Option (Option (List ℕ))) → IsSameCourse IsAlike c f → IsKept (due_of c).ending (Some (Some bytes)) now
@@ -237,32 +240,32 @@ module _ (i : ℕ) where
   module _ (n : ℕ) (now : Option (List ℕ)) (new : Option (List ℕ)) where
     -- it ended in this stretch
     in_stretch : (g : Group) (l : i < length g.files) (bytes : List ℕ) (d : Sitting Seen) (u : Sitting State) (input : List ℕ) (old : Option (List ℕ)) (others : List Deed) → file_at g i ≡ Some bytes → length bytes ≤ FILE_BYTES → IsFileFor bytes u.state → IsBytes input → IsAlike d u → IsRecent u
-        → (n ≡ 0 → others ≡ []) → EndsIn (due_of (course (answer by_parts) d input)) n (Some (Some bytes)) (Some now) old new → IsLeftOf n g (deed_of (record { state = u; input = input }) ∷ others) now
+        → (n ≡ 0 → others ≡ []) → EndsIn (due_of (course_at by_parts d input)) n (Some (Some bytes)) (Some now) old new → IsLeftOf n g (deed_of (record { state = seated u; input = input }) ∷ others) now
     in_stretch g l bytes d u input old others at short stands b h r none e = record {
-      all = λ z. subst (λ (ds : List Deed). now ≡ file_at (after_deeds g i (deed_of (record { state = u; input = input }) ∷ ds)) i) (sym (none z)) (done (e.stored z));
+      all = λ z. subst (λ (ds : List Deed). now ≡ file_at (after_deeds g i (deed_of (record { state = seated u; input = input }) ∷ ds)) i) (sym (none z)) (done (e.stored z));
       some = at_zero (eqb_tells n 0);
     }
       where
-        done : IsKept (due_of (course (answer by_parts) d input)).ending (Some (Some bytes)) (Some now) → now ≡ file_at (after_run true g i (deed_of (record { state = u; input = input }))) i
+        done : IsKept (due_of (course_at by_parts d input)).ending (Some (Some bytes)) (Some now) → now ≡ file_at (after_run true g i (deed_of (record { state = seated u; input = input }))) i
         done k =
-            let kept = kept_at_end (course (answer by_parts) d input) (course (answer by_history) u input) bytes (Some now) (alike_course d u input b h) k in
-            some_is now (Some (bytes_over ((course (answer by_parts) d input).state).state)) kept.1 ∙ stored_at g l bytes d u input at short stands b h r kept.0
+            let kept = kept_at_end (course_at by_parts d input) (course_at by_history u input) bytes (Some now) (alike_course d u input b h) k in
+            some_is now (Some (bytes_over ((course_at by_parts d input).state).state)) kept.1 ∙ stored_at g l bytes d u input at short stands b h r kept.0
 
-        once : IsKept (due_of (course (answer by_parts) d input)).ending (Some (Some bytes)) (Some now) → (k : ℕ) × (now ≡ file_at (after_deeds g i (take k (deed_of (record { state = u; input = input }) ∷ others))) i)
+        once : IsKept (due_of (course_at by_parts d input)).ending (Some (Some bytes)) (Some now) → (k : ℕ) × (now ≡ file_at (after_deeds g i (take k (deed_of (record { state = seated u; input = input }) ∷ others))) i)
         once k = (1, done k)
 
-        never : now ≡ Some bytes → (k : ℕ) × (now ≡ file_at (after_deeds g i (take k (deed_of (record { state = u; input = input }) ∷ others))) i)
+        never : now ≡ Some bytes → (k : ℕ) × (now ≡ file_at (after_deeds g i (take k (deed_of (record { state = seated u; input = input }) ∷ others))) i)
         never same = (0, same ∙ sym at)
 
-        fails : FailsAt (due_of (course (answer by_parts) d input)) (Some (Some bytes)) (Some now) old new → (k : ℕ) × (now ≡ file_at (after_deeds g i (take k (deed_of (record { state = u; input = input }) ∷ others))) i)
+        fails : FailsAt (due_of (course_at by_parts d input)) (Some (Some bytes)) (Some now) old new → (k : ℕ) × (now ≡ file_at (after_deeds g i (take k (deed_of (record { state = seated u; input = input }) ∷ others))) i)
         fails (inl k) = never (some_is now (Some bytes) k.0)
         fails (inr k) = once k.0
 
-        at_nine : n ≢ 0 → ((eqb n 9 ≡ true) × (n ≡ 9)) ⊎ ((eqb n 9 ≡ false) × (n ≢ 9)) → (k : ℕ) × (now ≡ file_at (after_deeds g i (take k (deed_of (record { state = u; input = input }) ∷ others))) i)
+        at_nine : n ≢ 0 → ((eqb n 9 ≡ true) × (n ≡ 9)) ⊎ ((eqb n 9 ≡ false) × (n ≢ 9)) → (k : ℕ) × (now ≡ file_at (after_deeds g i (take k (deed_of (record { state = seated u; input = input }) ∷ others))) i)
         at_nine other (inl z) = fails (e.failing z.1)
         at_nine other (inr z) = never (e.stays other z.1)
 
-        at_zero : ((eqb n 0 ≡ true) × (n ≡ 0)) ⊎ ((eqb n 0 ≡ false) × (n ≢ 0)) → (k : ℕ) × (now ≡ file_at (after_deeds g i (take k (deed_of (record { state = u; input = input }) ∷ others))) i)
+        at_zero : ((eqb n 0 ≡ true) × (n ≡ 0)) ⊎ ((eqb n 0 ≡ false) × (n ≢ 0)) → (k : ℕ) × (now ≡ file_at (after_deeds g i (take k (deed_of (record { state = seated u; input = input }) ∷ others))) i)
         at_zero (inl z) = once (e.stored z.1)
         at_zero (inr z) = at_nine z.1 (eqb_tells n 9)
 
@@ -272,37 +275,37 @@ module _ (i : ℕ) where
 
     -- it ended in this stretch, or stored and went on
     at_stretch : (g : Group) (l : i < length g.files) (bytes : List ℕ) (d : Sitting Seen) (u : Sitting State) (input : List ℕ) (old : Option (List ℕ)) (ds : List Due) (deeds : List Deed) → file_at g i ≡ Some bytes → length bytes ≤ FILE_BYTES → IsFileFor bytes u.state → IsBytes input
-        → IsAlike d u → IsRecent u → (ds ≡ [] → deeds ≡ []) → EndsOn (due_of (course (answer by_parts) d input)) ds n (Some (Some bytes)) (Some now) old new
-        → ((mid : Option (List ℕ)) (stored : List ℕ) → file_at (after_run true g i (deed_of (record { state = u; input = input }))) i ≡ Some stored → length stored ≤ FILE_BYTES → IsFileFor stored ((course (answer by_history) u input).state).state → Ends ds n (Some (Some stored)) (Some now) mid new
-        → IsLeftOf n (after_run true g i (deed_of (record { state = u; input = input }))) deeds now) → IsLeftOf n g (deed_of (record { state = u; input = input }) ∷ deeds) now
+        → IsAlike d u → IsRecent u → (ds ≡ [] → deeds ≡ []) → EndsOn (due_of (course_at by_parts d input)) ds n (Some (Some bytes)) (Some now) old new
+        → ((mid : Option (List ℕ)) (stored : List ℕ) → file_at (after_run true g i (deed_of (record { state = seated u; input = input }))) i ≡ Some stored → length stored ≤ FILE_BYTES → IsFileFor stored ((course_at by_history u input).state).state → Ends ds n (Some (Some stored)) (Some now) mid new
+        → IsLeftOf n (after_run true g i (deed_of (record { state = seated u; input = input }))) deeds now) → IsLeftOf n g (deed_of (record { state = seated u; input = input }) ∷ deeds) now
     at_stretch g l bytes d u input old [] deeds at short stands b h r none e more = in_stretch g l bytes d u input old deeds at short stands b h r (λ z. none refl) e
     at_stretch g l bytes d u input old (x ∷ ds) deeds at short stands b h r none (inl e) more = in_stretch g l bytes d u input old deeds at short stands b h r (λ z. absurd (e.0 z)) e.1
     at_stretch g l bytes d u input old (x ∷ ds) deeds at short stands b h r none (inr e) more =
         let done = e.2 in
-        let kept = kept_at_end (course (answer by_parts) d input) (course (answer by_history) u input) bytes e.0 (alike_course d u input b h) done.stored in
-        later_left g (deed_of (record { state = u; input = input })) deeds
-        (more e.1 (bytes_over ((course (answer by_parts) d input).state).state) (sym (stored_at g l bytes d u input at short stands b h r kept.0)) kept.2 kept.3
+        let kept = kept_at_end (course_at by_parts d input) (course_at by_history u input) bytes e.0 (alike_course d u input b h) done.stored in
+        later_left g (deed_of (record { state = seated u; input = input })) deeds
+        (more e.1 (bytes_over ((course_at by_parts d input).state).state) (sym (stored_at g l bytes d u input at short stands b h r kept.0)) kept.2 kept.3
         (subst (λ (file : Option (Option (List ℕ))). EndsOn x ds n file (Some now) e.1 new) kept.1 e.3))
 
     -- from stretch to stretch
     ends_within : (m : ℕ) (g : Group) (l : i < length g.files) (bytes : List ℕ) (d : Sitting Seen) (u : Sitting State) (input : List ℕ) (old : Option (List ℕ)) → file_at g i ≡ Some bytes → length bytes ≤ FILE_BYTES → IsFileFor bytes u.state → IsBytes input → IsAlike d u → IsRecent u
-        → Ends (map due_of (map (course_of (answer by_parts)) (stretches_within (answer by_parts) (resumed by_parts) m d input))) n (Some (Some bytes)) (Some now) old new
-        → IsLeftOf n g (deeds_of (stretches_within (answer by_history) (resumed by_history) m u input)) now
+        → Ends (map due_of (map (closed by_parts) (map (course_of (respond by_parts)) (stretches_within (respond by_parts) (resumed_seat by_parts) m (seated d) input)))) n (Some (Some bytes)) (Some now) old new
+        → IsLeftOf n g (deeds_of (stretches_within (respond by_history) (resumed_seat by_history) m (seated u) input)) now
     unfolding mine theirs
     ends_within zero g l bytes d u input old at short stands b h r e = absurd e
     ends_within (suc m) g l bytes d u input old at short stands b h r e =
         let same = alike_course d u input b h in
-        subst (λ (k : ℕ). IsLeftOf n g (deed_of (record { state = u; input = input }) ∷ theirs m u input (course (answer by_history) u input).stores k) now) same.used
-        (subst (λ (x : Bool). IsLeftOf n g (deed_of (record { state = u; input = input }) ∷ theirs m u input x (course (answer by_parts) d input).used) now) same.stores
-        (at_stretch g l bytes d u input old (mine m d input (course (answer by_parts) d input).stores) (theirs m u input (course (answer by_parts) d input).stores (course (answer by_parts) d input).used) at short stands b h r
-        (none_both m d u input (course (answer by_parts) d input).stores (course (answer by_parts) d input).used) e
-        (λ mid stored there few files ends. on (course (answer by_parts) d input).stores mid stored there few files ends
-        (λ ends. ends_within m (after_run true g i (deed_of (record { state = u; input = input }))) (there_still g l (deed_of (record { state = u; input = input }))) stored (resumed by_parts (course (answer by_parts) d input).state) (resumed by_history (course (answer by_history) u input).state) (drop (suc (course (answer by_parts) d input).used) input) mid there few files
-        (IsBytes-drop (suc (course (answer by_parts) d input).used) input b) (resumed_alike _ _ same.states) (recent (course (answer by_history) u input).state) ends))))
+        subst (λ (k : ℕ). IsLeftOf n g (deed_of (record { state = seated u; input = input }) ∷ theirs m u input (course_at by_history u input).stores k) now) same.used
+        (subst (λ (x : Bool). IsLeftOf n g (deed_of (record { state = seated u; input = input }) ∷ theirs m u input x (course_at by_parts d input).used) now) same.stores
+        (at_stretch g l bytes d u input old (mine m d input (course_at by_parts d input).stores) (theirs m u input (course_at by_parts d input).stores (course_at by_parts d input).used) at short stands b h r
+        (none_both m d u input (course_at by_parts d input).stores (course_at by_parts d input).used) e
+        (λ mid stored there few files ends. on (course_at by_parts d input).stores mid stored there few files ends
+        (λ ends. ends_within m (after_run true g i (deed_of (record { state = seated u; input = input }))) (there_still g l (deed_of (record { state = seated u; input = input }))) stored (resumed by_parts (course_at by_parts d input).state) (resumed by_history (course_at by_history u input).state) (drop (suc (course_at by_parts d input).used) input) mid there few files
+        (IsBytes-drop (suc (course_at by_parts d input).used) input b) (resumed_alike _ _ same.states) (recent (course_at by_history u input).state) ends))))
       where
-        on : (x : Bool) (mid : Option (List ℕ)) (stored : List ℕ) → file_at (after_run true g i (deed_of (record { state = u; input = input }))) i ≡ Some stored → length stored ≤ FILE_BYTES → IsFileFor stored ((course (answer by_history) u input).state).state
-            → Ends (mine m d input x) n (Some (Some stored)) (Some now) mid new → (Ends (mine m d input true) n (Some (Some stored)) (Some now) mid new → IsLeftOf n (after_run true g i (deed_of (record { state = u; input = input }))) (theirs m u input true (course (answer by_parts) d input).used) now)
-            → IsLeftOf n (after_run true g i (deed_of (record { state = u; input = input }))) (theirs m u input x (course (answer by_parts) d input).used) now
+        on : (x : Bool) (mid : Option (List ℕ)) (stored : List ℕ) → file_at (after_run true g i (deed_of (record { state = seated u; input = input }))) i ≡ Some stored → length stored ≤ FILE_BYTES → IsFileFor stored ((course_at by_history u input).state).state
+            → Ends (mine m d input x) n (Some (Some stored)) (Some now) mid new → (Ends (mine m d input true) n (Some (Some stored)) (Some now) mid new → IsLeftOf n (after_run true g i (deed_of (record { state = seated u; input = input }))) (theirs m u input true (course_at by_parts d input).used) now)
+            → IsLeftOf n (after_run true g i (deed_of (record { state = seated u; input = input }))) (theirs m u input x (course_at by_parts d input).used) now
         on false mid stored there few files ends f = absurd ends
         on true mid stored there few files ends f = f ends
 
@@ -336,37 +339,37 @@ module _ (i : ℕ) where
 
     -- it came no further than this stretch, or stored and went on
     at_stop : (g : Group) (l : i < length g.files) (bytes : List ℕ) (d : Sitting Seen) (u : Sitting State) (input : List ℕ) (ds : List Due) (deeds : List Deed) (files : List (List ℕ)) (failed : Option (List ℕ)) (old new : D) → file_at g i ≡ Some bytes → length bytes ≤ FILE_BYTES → IsFileFor bytes u.state → IsBytes input
-        → IsAlike d u → IsRecent u → AreFilesOf (due_of (course (answer by_parts) d input) ∷ ds) (files ++ and_failed failed) → InTurn (Some bytes) files failed old new
-        → ((stored : List ℕ) (others : List (List ℕ)) (mid : D) → file_at (after_run true g i (deed_of (record { state = u; input = input }))) i ≡ Some stored → length stored ≤ FILE_BYTES → IsFileFor stored ((course (answer by_history) u input).state).state → AreFilesOf ds (others ++ and_failed failed)
-        → InTurn (Some stored) others failed mid new → LeavesDeeds moment left_since (after_run true g i (deed_of (record { state = u; input = input }))) i deeds mid new) → LeavesDeeds moment left_since g i (deed_of (record { state = u; input = input }) ∷ deeds) old new
+        → IsAlike d u → IsRecent u → AreFilesOf (due_of (course_at by_parts d input) ∷ ds) (files ++ and_failed failed) → InTurn (Some bytes) files failed old new
+        → ((stored : List ℕ) (others : List (List ℕ)) (mid : D) → file_at (after_run true g i (deed_of (record { state = seated u; input = input }))) i ≡ Some stored → length stored ≤ FILE_BYTES → IsFileFor stored ((course_at by_history u input).state).state → AreFilesOf ds (others ++ and_failed failed)
+        → InTurn (Some stored) others failed mid new → LeavesDeeds moment left_since (after_run true g i (deed_of (record { state = seated u; input = input }))) i deeds mid new) → LeavesDeeds moment left_since g i (deed_of (record { state = seated u; input = input }) ∷ deeds) old new
     at_stop g l bytes d u input ds deeds [] None old new at short stands b h r a left more = inl (leaves_weaker moment left_since old new (IsOld (Some bytes)) _ (λ c p. (false, p ∙ sym at)) left)
     at_stop g l bytes d u input ds deeds [] (Some x) old new at short stands b h r a left more =
-        let k = file_stored (course (answer by_parts) d input) (course (answer by_history) u input) x (alike_course d u input b h) a.0 in
-        inl (in_deed g (deed_of (record { state = u; input = input })) x false (Some bytes) old new (sym at) (k.1 ∙ stored_at g l bytes d u input at short stands b h r k.0) left)
+        let k = file_stored (course_at by_parts d input) (course_at by_history u input) x (alike_course d u input b h) a.0 in
+        inl (in_deed g (deed_of (record { state = seated u; input = input })) x false (Some bytes) old new (sym at) (k.1 ∙ stored_at g l bytes d u input at short stands b h r k.0) left)
     at_stop g l bytes d u input ds deeds (x ∷ files) failed old new at short stands b h r a left more =
-        let k = file_stored (course (answer by_parts) d input) (course (answer by_history) u input) x (alike_course d u input b h) a.0 in
+        let k = file_stored (course_at by_parts d input) (course_at by_history u input) x (alike_course d u input b h) a.0 in
         let there = k.1 ∙ stored_at g l bytes d u input at short stands b h r k.0 in
-        inr (left.0, in_deed g (deed_of (record { state = u; input = input })) x true (Some bytes) old left.0 (sym at) there left.1, more x files left.0 (sym there) k.2 k.3 a.1 left.2)
+        inr (left.0, in_deed g (deed_of (record { state = seated u; input = input })) x true (Some bytes) old left.0 (sym at) there left.1, more x files left.0 (sym there) k.2 k.3 a.1 left.2)
 
     -- from stretch to stretch
     stops_within : (m : ℕ) (g : Group) (l : i < length g.files) (bytes : List ℕ) (d : Sitting Seen) (u : Sitting State) (input : List ℕ) (files : List (List ℕ)) (failed : Option (List ℕ)) (old new : D) → file_at g i ≡ Some bytes → length bytes ≤ FILE_BYTES → IsFileFor bytes u.state → IsBytes input → IsAlike d u → IsRecent u
-        → AreFilesOf (map due_of (map (course_of (answer by_parts)) (stretches_within (answer by_parts) (resumed by_parts) m d input))) (files ++ and_failed failed) → InTurn (Some bytes) files failed old new
-        → LeavesDeeds moment left_since g i (deeds_of (stretches_within (answer by_history) (resumed by_history) m u input)) old new
+        → AreFilesOf (map due_of (map (closed by_parts) (map (course_of (respond by_parts)) (stretches_within (respond by_parts) (resumed_seat by_parts) m (seated d) input)))) (files ++ and_failed failed) → InTurn (Some bytes) files failed old new
+        → LeavesDeeds moment left_since g i (deeds_of (stretches_within (respond by_history) (resumed_seat by_history) m (seated u) input)) old new
     unfolding mine theirs
     stops_within zero g l bytes d u input files failed old new at short stands b h r a left = none_more g (Some bytes) files failed old new (sym at) a left
     stops_within (suc m) g l bytes d u input files failed old new at short stands b h r a left =
         let same = alike_course d u input b h in
-        subst (λ (k : ℕ). LeavesDeeds moment left_since g i (deed_of (record { state = u; input = input }) ∷ theirs m u input (course (answer by_history) u input).stores k) old new) same.used
-        (subst (λ (x : Bool). LeavesDeeds moment left_since g i (deed_of (record { state = u; input = input }) ∷ theirs m u input x (course (answer by_parts) d input).used) old new) same.stores
-        (at_stop g l bytes d u input (mine m d input (course (answer by_parts) d input).stores) (theirs m u input (course (answer by_parts) d input).stores (course (answer by_parts) d input).used) files failed old new at short stands b h r a left
-        (λ stored others mid there few file asked rest. on (course (answer by_parts) d input).stores stored others mid there asked rest
-        (λ asked. stops_within m (after_run true g i (deed_of (record { state = u; input = input }))) (there_still g l (deed_of (record { state = u; input = input }))) stored (resumed by_parts (course (answer by_parts) d input).state) (resumed by_history (course (answer by_history) u input).state) (drop (suc (course (answer by_parts) d input).used) input) others failed mid new there few file
-        (IsBytes-drop (suc (course (answer by_parts) d input).used) input b) (resumed_alike _ _ same.states) (recent (course (answer by_history) u input).state) asked rest))))
+        subst (λ (k : ℕ). LeavesDeeds moment left_since g i (deed_of (record { state = seated u; input = input }) ∷ theirs m u input (course_at by_history u input).stores k) old new) same.used
+        (subst (λ (x : Bool). LeavesDeeds moment left_since g i (deed_of (record { state = seated u; input = input }) ∷ theirs m u input x (course_at by_parts d input).used) old new) same.stores
+        (at_stop g l bytes d u input (mine m d input (course_at by_parts d input).stores) (theirs m u input (course_at by_parts d input).stores (course_at by_parts d input).used) files failed old new at short stands b h r a left
+        (λ stored others mid there few file asked rest. on (course_at by_parts d input).stores stored others mid there asked rest
+        (λ asked. stops_within m (after_run true g i (deed_of (record { state = seated u; input = input }))) (there_still g l (deed_of (record { state = seated u; input = input }))) stored (resumed by_parts (course_at by_parts d input).state) (resumed by_history (course_at by_history u input).state) (drop (suc (course_at by_parts d input).used) input) others failed mid new there few file
+        (IsBytes-drop (suc (course_at by_parts d input).used) input b) (resumed_alike _ _ same.states) (recent (course_at by_history u input).state) asked rest))))
       where
-        on : (x : Bool) (stored : List ℕ) (others : List (List ℕ)) (mid : D) → file_at (after_run true g i (deed_of (record { state = u; input = input }))) i ≡ Some stored → AreFilesOf (mine m d input x) (others ++ and_failed failed) → InTurn (Some stored) others failed mid new
-            → (AreFilesOf (mine m d input true) (others ++ and_failed failed) → LeavesDeeds moment left_since (after_run true g i (deed_of (record { state = u; input = input }))) i (theirs m u input true (course (answer by_parts) d input).used) mid new)
-            → LeavesDeeds moment left_since (after_run true g i (deed_of (record { state = u; input = input }))) i (theirs m u input x (course (answer by_parts) d input).used) mid new
-        on false stored others mid there asked rest f = none_more (after_run true g i (deed_of (record { state = u; input = input }))) (Some stored) others failed mid new (sym there) asked rest
+        on : (x : Bool) (stored : List ℕ) (others : List (List ℕ)) (mid : D) → file_at (after_run true g i (deed_of (record { state = seated u; input = input }))) i ≡ Some stored → AreFilesOf (mine m d input x) (others ++ and_failed failed) → InTurn (Some stored) others failed mid new
+            → (AreFilesOf (mine m d input true) (others ++ and_failed failed) → LeavesDeeds moment left_since (after_run true g i (deed_of (record { state = seated u; input = input }))) i (theirs m u input true (course_at by_parts d input).used) mid new)
+            → LeavesDeeds moment left_since (after_run true g i (deed_of (record { state = seated u; input = input }))) i (theirs m u input x (course_at by_parts d input).used) mid new
+        on false stored others mid there asked rest f = none_more (after_run true g i (deed_of (record { state = seated u; input = input }))) (Some stored) others failed mid new (sym there) asked rest
         on true stored others mid there asked rest f = f asked
 
 -- a session over a member's file that stands for a history

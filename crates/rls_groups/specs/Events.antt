@@ -17,20 +17,23 @@ use Rattle.rls_top.specs.declared.words.FileCommand.TheVariants.{Take}
 use Rattle.rls_top.specs.Due.{Due}
 use Rattle.rls_top.specs.Groups.{Group, due_of, files_with, messages_in, stored_in}
 use Rattle.rls_top.specs.Words.{command_of}
-use Rattle.rls_session.specs.declared.orders.Order.TheVariants.{Quit, Send, Store}
+use Rattle.rls_session.specs.declared.orders.Order.TheVariants as orders
+use Rattle.rls_session.specs.declared.orders.Order.TheVariants.{Quit, Store}
 use Rattle.rls_session.specs.declared.cursors.Cursor.{Cursor}
-use Rattle.rls_session.specs.Answers.{Kind, Sitting, answer}
-use Rattle.rls_session.specs.Courses.{Answered, Course, course, holds}
+use Rattle.rls_session.specs.Answers.{Kind, Sitting}
+use Rattle.rls_session.specs.Courses.{Answered, Course, holds}
 use Rattle.rls_session.specs.Desks.{AreKept, IsWhole}
 use Rattle.rls_session.specs.Due as session
 use Rattle.rls_session.specs.Due.{due_of as due_of_course, stops}
 use Rattle.rls_session.specs.Requests.{Request, Does, Takes, cut}
+use Rattle.rls_session.specs.Seats.{Seat, at_work, course_at, respond, seated}
 use Rattle.rls_session.specs.Sessions.{by_parts}
 
 -- ---- sessions
 
 -- What a session works on beside the replica. At its beginning that is nothing that can be undone, no cursor that was put, no step that is
--- recorded, and that changes aren't told. A session that stores more than once begins what follows a store with what it has then.
+-- recorded, and that changes aren't told. A session that stores more than once begins what follows a store with what it has then. A draft of
+-- its editor's changes isn't among it: that is made before each store.
 pub record Desk : Type 0 where
   pub entries : List Entry
   pub cursors : List Cursor
@@ -43,9 +46,9 @@ empty_desk = record { entries = []; cursors = []; recorded = unused; tells = fal
 abbrev pub at_desk : {X : Type 0} → X → Desk → Sitting X
 at_desk s desk = record { state = s; entries = desk.entries; cursors = desk.cursors; recorded = desk.recorded; tells = desk.tells }
 
--- the session from this state and desk over this input, up to its next store
+-- the session from this state and desk over this input, up to its next store, before which its draft is made
 abbrev pub session_at : {X : Type 0} → Kind X → X → Desk → List ℕ → Course (Sitting X)
-session_at K s desk input = course (answer K) (at_desk s desk) input
+session_at K s desk input = course_at K (at_desk s desk) input
 
 -- the replica that the member's file says
 abbrev pub replica_at : Group → ℕ → Result Seen CommandError
@@ -75,12 +78,34 @@ gathered_from answer f zero s (b ∷ bytes) = gathered_on answer f s (cut (b ∷
 
 -- the message with which a request is answered, if it asks for one
 abbrev pub replied : Sitting Seen → Request → List (List ℕ)
-replied d (Does (Send to)) = if nat_lt to (members d.state) then message_bytes (message_over d.state to) ∷ [] else []
-replied d request = []
+replied d (Does (orders.Edit line)) = []
+replied d (Does (orders.Change at n cs)) = []
+replied d (Does orders.Undo) = []
+replied d (Does orders.Back) = []
+replied d (Does orders.Again) = []
+replied d (Does orders.Close) = []
+replied d (Does (orders.Point side at n)) = []
+replied d (Does (orders.Place n)) = []
+replied d (Does (orders.Spell at)) = []
+replied d (Does (orders.Locate place)) = []
+replied d (Does orders.Text) = []
+replied d (Does (orders.Take len)) = []
+replied d (Does (orders.Send to)) = if nat_lt to (members d.state) then message_bytes (message_over d.state to) ∷ [] else []
+replied d (Does (orders.Tell on)) = []
+replied d (Does orders.Stat) = []
+replied d (Does (orders.Version n)) = []
+replied d (Does orders.Store) = []
+replied d (Does orders.Quit) = []
+replied d (Does orders.Bad) = []
+replied d (Takes message) = []
+
+-- the draft is made before it, so that the message has what the editor changed
+abbrev pub replied_from : Seat Seen → Request → List (List ℕ)
+replied_from b request = replied (at_work by_parts b) request
 
 -- the messages that a session answers
 abbrev pub replied_at : Seen → Desk → List ℕ → List (List ℕ)
-replied_at s desk input = gathered_from (answer by_parts) replied 0 (at_desk s desk) input
+replied_at s desk input = gathered_from (respond by_parts) replied_from 0 (seated (at_desk s desk)) input
 
 -- ---- what a run does
 
@@ -143,10 +168,28 @@ after_events g (e ∷ es) = after_events (after_event g e) es
 
 -- ---- which events there are
 
--- a session takes what may be handed on
-abbrev pub IsWritten : Group → Sitting Seen → Request → Type 0
-IsWritten g d (Takes message) = IsIn message g.written
-IsWritten g d request = Unit {0}
+-- a session takes what may be handed on; of its other requests nothing is asked
+abbrev pub IsWritten : Group → Request → Type 0
+IsWritten g (Does (orders.Edit line)) = Unit {0}
+IsWritten g (Does (orders.Change at n cs)) = Unit {0}
+IsWritten g (Does orders.Undo) = Unit {0}
+IsWritten g (Does orders.Back) = Unit {0}
+IsWritten g (Does orders.Again) = Unit {0}
+IsWritten g (Does orders.Close) = Unit {0}
+IsWritten g (Does (orders.Point side at n)) = Unit {0}
+IsWritten g (Does (orders.Place n)) = Unit {0}
+IsWritten g (Does (orders.Spell at)) = Unit {0}
+IsWritten g (Does (orders.Locate place)) = Unit {0}
+IsWritten g (Does orders.Text) = Unit {0}
+IsWritten g (Does (orders.Take len)) = Unit {0}
+IsWritten g (Does (orders.Send to)) = Unit {0}
+IsWritten g (Does (orders.Tell on)) = Unit {0}
+IsWritten g (Does orders.Stat) = Unit {0}
+IsWritten g (Does (orders.Version n)) = Unit {0}
+IsWritten g (Does orders.Store) = Unit {0}
+IsWritten g (Does orders.Quit) = Unit {0}
+IsWritten g (Does orders.Bad) = Unit {0}
+IsWritten g (Takes message) = IsIn message g.written
 
 -- it goes back to nothing that was dropped, and is given bytes
 pub record IsSession (g : Group) (s : Seen) (desk : Desk) (input : List ℕ) : Type 0 where
@@ -155,7 +198,7 @@ pub record IsSession (g : Group) (s : Seen) (desk : Desk) (input : List ℕ) : T
   pub texts : AreWhole desk.entries
   pub kept : AreKept s (desk.recorded).epoch (desk.recorded).names
   pub spelled : steps.IsWhole desk.recorded
-  pub given : holds (answer by_parts) (IsWritten g) (at_desk s desk) input
+  pub given : holds (respond by_parts) (λ b request. IsWritten g request) (seated (at_desk s desk)) input
 
 -- what a run is given: messages that may be handed on, for whomever they are, and whether or not they were taken before
 abbrev pub IsGiven : Group → ℕ → Deed → Type 0

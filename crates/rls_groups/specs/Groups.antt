@@ -33,17 +33,20 @@ use Rattle.rls_top.specs.declared.words.FileCommand.TheVariants as commands
 use Rattle.rls_top.specs.Due.{Due, Makes, NoCommand, Stops, shows}
 use Rattle.rls_top.specs.Groups.{AllTaken, BeginsWithNew, EqualCountsShowSame, Group, IsFileOf, IsOfMember, IsOrderedBy, NoneRefused, NoneReleased, WaitingMade, due_of, fresh_group}
 use Rattle.rls_top.specs.Words.{command_of}
-use Rattle.rls_session.specs.declared.orders.Order.TheVariants.{Edit, Undo, Back, Again, Text, Send}
+use Rattle.rls_session.specs.declared.orders.Order.TheVariants as orders
 use Rattle.rls_codec.specs.Reading.{message_of}
 use Rattle.rls_changes.specs.ChangesLaws.{own_changes}
 use Rattle.rls_changes.specs.Edits.{edit_changes}
 use Rattle.rls_steps.specs.Grounds.{over, again_edits, back_edits}
-use Rattle.rls_session.specs.Answers.{Sitting, answer, backed, edited as edited_by, made_changes, message_changes, read_line, redone, told, undone_changes, undone_last, with_begun, with_caught_up, with_changes}
-use Rattle.rls_session.specs.Courses.{Course, holds}
-use Rattle.rls_session.specs.Replies.{bytes_text, ok_text}
+use Rattle.rls_session.specs.Answers.{Kind, Sitting, backed, edited as edited_by, made_changes, message_changes, read_line, redone, told, undone_changes, undone_last, with_begun, with_caught_up, with_changes}
+use Rattle.rls_session.specs.Courses.{Answered, Course, course, holds}
+use Rattle.rls_session.specs.Drafts.{draft_of, shown_by}
+use Rattle.rls_session.specs.Replies.{bytes_text, noted_text, ok_text, refused_text}
 use Rattle.rls_session.specs.Requests.{Request, Does, Takes}
+use Rattle.rls_session.specs.SessionLaws.{IsUnawaited}
+use Rattle.rls_session.specs.Seats.{Seat, at_work, plan, respond, says_at, seated, shown}
 use Rattle.rls_session.specs.Sessions.{by_history, by_parts}
-use Rattle.rls_groups.specs.Events.{AreOfGroup, Commands, Deed, Desk, Event, IsOfGroup, Sits, at_desk, replica_at, replied, session_at, session_due, stored_by}
+use Rattle.rls_groups.specs.Events.{AreOfGroup, Commands, Deed, Desk, Event, IsOfGroup, Sits, at_desk, replica_at, replied_from, session_at, session_due, stored_by}
 use Rattle.rls_groups.specs.Lives.{Life, after_deed, begun, lived, lived_all}
 
 -- ---- what a session answers
@@ -53,26 +56,52 @@ abbrev pub IsTextOfAll : Group → List ℕ → List ℕ → Type 0
 IsTextOfAll g v reply = (j : ℕ) (t : State) (words : List (List ℕ)) (input : List ℕ) → IsFileOf g j t → count t.history ≡ v → command_of words ≡ Some (OnFile commands.Text) →
     (report : List ℕ) × (due_of g j words input ≡ Some (shows report)) × (reply ≡ bytes_text (codes "text") report)
 
--- an edit, an undo and steps that are taken back or done again release nothing that waits, and tell what they change alone; `t` shows what others show; a message is taken, with none of its operations refused; and the
--- reply to `s` is the message that may be handed on
-abbrev pub IsClean : Group → Sitting Seen → Request → Type 0
-IsClean g d (Does (Edit line)) = let r = read_line by_parts d.state line in answer by_parts d (Does (Edit line)) ≡ told d (made_changes r) (edited_by by_parts d r)
-IsClean g d (Does Undo) = let e = with_caught_up by_parts d in answer by_parts d (Does Undo) ≡ told e (undone_changes by_parts e.state (last_of e.entries)) (undone_last by_parts e)
-IsClean g d (Does Back) = let e = with_begun by_parts d in answer by_parts d (Does Back) ≡ told e (edit_changes (back_edits over e.state e.recorded)) (backed by_parts e)
-IsClean g d (Does Again) = let e = with_begun by_parts d in answer by_parts d (Does Again) ≡ told e (edit_changes (again_edits over e.state e.recorded)) (redone by_parts e)
-IsClean g d (Does Text) = IsTextOfAll g (vector d.state) (answer by_parts d (Does Text)).reply
-IsClean g d (Takes message) = (applied released repeated held : ℕ) ×
-    ((answer by_parts d (Takes message)).reply ≡ with_changes d.tells (message_changes by_parts d.state (message_of message)) (take_text applied released repeated held 0))
-IsClean g d (Does (Send to)) = (message : List ℕ) → IsIn message (replied d (Does (Send to))) → (answer by_parts d (Does (Send to))).reply ≡ bytes_text (codes "message") message
-IsClean g d request = Unit {0}
+-- this is answered where nothing is drafted, and nothing is drafted after it
+abbrev pub at_seat : {X : Type 0} → Answered (Sitting X) → Answered (Seat X)
+at_seat a = says_at a.reply (seated a.state)
+
+-- A change of the editor is noted, and is in the text that is shown from then on; or it is refused, and that text is as before. No more is
+-- answered, so nothing of it is told.
+abbrev pub IsShown : {X : Type 0} → Kind X → Seat X → ℕ → ℕ → List ℕ → Type 0
+IsShown K b at n cs = let a = respond K b (Does (orders.Change at n cs)) in
+    ((a.reply ≡ noted_text) × (shown K a.state ≡ shown_by (draft_of at n cs) (shown K b)))
+    ⊎ ((fault : LineFault) × (a.reply ≡ refused_text fault) × (shown K a.state ≡ shown K b))
+
+-- A change of the editor is shown. Every other request is answered once the draft is made: an edit, an undo and steps that are taken back or done
+-- again release nothing that waits, and tell what they change alone; `t` shows what others show; a message is taken, with none of its operations
+-- refused; and the reply to `s` is the message that may be handed on. Of the rest the law says nothing.
+abbrev pub IsClean : Group → Seat Seen → Request → Type 0
+IsClean g b (Does (orders.Edit line)) = let d = at_work by_parts b in let r = read_line by_parts d.state line in respond by_parts b (Does (orders.Edit line)) ≡ at_seat (told d (made_changes r) (edited_by by_parts d r))
+IsClean g b (Does (orders.Change at n cs)) = IsShown by_parts b at n cs
+IsClean g b (Does orders.Undo) = let e = with_caught_up by_parts (at_work by_parts b) in respond by_parts b (Does orders.Undo) ≡ at_seat (told e (undone_changes by_parts e.state (last_of e.entries)) (undone_last by_parts e))
+IsClean g b (Does orders.Back) = let e = with_begun by_parts (at_work by_parts b) in respond by_parts b (Does orders.Back) ≡ at_seat (told e (edit_changes (back_edits over e.state e.recorded)) (backed by_parts e))
+IsClean g b (Does orders.Again) = let e = with_begun by_parts (at_work by_parts b) in respond by_parts b (Does orders.Again) ≡ at_seat (told e (edit_changes (again_edits over e.state e.recorded)) (redone by_parts e))
+IsClean g b (Does orders.Close) = Unit {0}
+IsClean g b (Does (orders.Point side at n)) = Unit {0}
+IsClean g b (Does (orders.Place n)) = Unit {0}
+IsClean g b (Does (orders.Spell at)) = Unit {0}
+IsClean g b (Does (orders.Locate place)) = Unit {0}
+IsClean g b (Does orders.Text) = IsTextOfAll g (vector (at_work by_parts b).state) (respond by_parts b (Does orders.Text)).reply
+IsClean g b (Does (orders.Take len)) = Unit {0}
+IsClean g b (Does (orders.Send to)) = (message : List ℕ) → IsIn message (replied_from b (Does (orders.Send to))) → (respond by_parts b (Does (orders.Send to))).reply ≡ bytes_text (codes "message") message
+IsClean g b (Does (orders.Tell on)) = Unit {0}
+IsClean g b (Does orders.Stat) = Unit {0}
+IsClean g b (Does (orders.Version n)) = Unit {0}
+IsClean g b (Does orders.Store) = Unit {0}
+IsClean g b (Does orders.Quit) = Unit {0}
+IsClean g b (Does orders.Bad) = Unit {0}
+IsClean g b (Takes message) = (applied released repeated held : ℕ) ×
+    let d = at_work by_parts b in ((respond by_parts b (Takes message)).reply ≡ with_changes d.tells (message_changes by_parts d.state (message_of message)) (take_text applied released repeated held 0))
 
 -- its last replica is to be stored, unless its input is too long, or the file would be
 abbrev pub IsSavedOrLong : Course (Sitting Seen) → Result Seen CommandError → Type 0
 IsSavedOrLong c ending = (ending ≡ Ok (c.state).state) ⊎ ((ending ≡ Err TooLarge) × ((INPUT_BYTES < c.used) ⊎ (FILE_BYTES < length (bytes_over (c.state).state))))
 
--- a session over a member's file finds a replica there, ends so, and answers each of its requests so
+-- a session over a member's file finds a replica there, ends so, and answers each of its requests so; and nothing that waits is released by making
+-- what is drafted before a request, and at the end
 abbrev pub SessionsClean : Group → Type 0
-SessionsClean g = (i : ℕ) (desk : Desk) (input : List ℕ) → IsOfGroup g i (Sits desk input) → (s : Seen) × (replica_at g i ≡ Ok s) × IsSavedOrLong (session_at by_parts s desk input) (session_due g i desk input).ending × holds (answer by_parts) (IsClean g) (at_desk s desk) input
+SessionsClean g = (i : ℕ) (desk : Desk) (input : List ℕ) → IsOfGroup g i (Sits desk input) → (s : Seen) × (replica_at g i ≡ Ok s) × IsSavedOrLong (session_at by_parts s desk input) (session_due g i desk input).ending
+    × let first = seated (at_desk s desk) in holds (respond by_parts) (λ b request. IsUnawaited b × IsClean g b request) first input × IsUnawaited (course (respond by_parts) first input).state
 
 -- ---- what a run that stored its file made of the member's history
 
@@ -97,27 +126,62 @@ IsCommanded (Some (OnFile commands.Leave)) input report t u = (report ≡ edit_t
 IsCommanded (Some (OnFile commands.Take)) input report t u = IsTaken t input u
 IsCommanded c input report t u = ⊥
 
--- what a session made of a history by an edit that is allowed: its operation is accepted, and nothing else happens; the reply is `ok` with its number,
--- and its change, if that is told
-pub record IsKept (d : Sitting State) (request : Request) (edit : model.Edit) : Type 0 where
-  pub reply : (answer by_history d request).reply ≡ with_changes d.tells (own_changes edit) (ok_text (next_seq (d.state).history))
-  pub edit_is : IsEdit edit
-  pub fits : edit_fault (d.state).history edit ≡ None
-  pub state : ((answer by_history d request).state).state ≡ accept d.state (made (d.state).history edit)
+-- ---- what a session made of it
 
--- by a request
-abbrev pub IsAnswered : Sitting State → Request → Type 0
-IsAnswered d (Does (Edit line)) = (edit : model.Edit) → read_line by_history d.state line ≡ Ok edit → IsKept d (Does (Edit line)) edit
-IsAnswered d (Takes message) = IsTaken d.state message ((answer by_history d (Takes message)).state).state
-IsAnswered d request = Unit {0}
+-- the state on which it works after this answer
+abbrev pub state_after : Answered (Seat State) → State
+state_after a = ((a.state).sitting).state
+
+-- by an edit that is allowed: its operation is accepted, and nothing else happens; the reply is `ok` with its number, and its change, if that is told
+pub record IsKept (c : Seat State) (request : Request) (edit : model.Edit) : Type 0 where
+  pub reply : let d = at_work by_history c in (respond by_history c request).reply ≡ with_changes d.tells (own_changes edit) (ok_text (next_seq (d.state).history))
+  pub edit_is : IsEdit edit
+  pub fits : edit_fault ((at_work by_history c).state).history edit ≡ None
+  pub state : let t = (at_work by_history c).state in state_after (respond by_history c request) ≡ accept t (made t.history edit)
+
+-- by a request, once the draft is made
+abbrev pub IsAnswered : Seat State → Request → Type 0
+IsAnswered c (Does (orders.Edit line)) = (edit : model.Edit) → read_line by_history (at_work by_history c).state line ≡ Ok edit → IsKept c (Does (orders.Edit line)) edit
+IsAnswered c (Does (orders.Change at n cs)) = IsShown by_history c at n cs
+IsAnswered c (Does orders.Undo) = Unit {0}
+IsAnswered c (Does orders.Back) = Unit {0}
+IsAnswered c (Does orders.Again) = Unit {0}
+IsAnswered c (Does orders.Close) = Unit {0}
+IsAnswered c (Does (orders.Point side at n)) = Unit {0}
+IsAnswered c (Does (orders.Place n)) = Unit {0}
+IsAnswered c (Does (orders.Spell at)) = Unit {0}
+IsAnswered c (Does (orders.Locate place)) = Unit {0}
+IsAnswered c (Does orders.Text) = Unit {0}
+IsAnswered c (Does (orders.Take len)) = Unit {0}
+IsAnswered c (Does (orders.Send to)) = Unit {0}
+IsAnswered c (Does (orders.Tell on)) = Unit {0}
+IsAnswered c (Does orders.Stat) = Unit {0}
+IsAnswered c (Does (orders.Version n)) = Unit {0}
+IsAnswered c (Does orders.Store) = Unit {0}
+IsAnswered c (Does orders.Quit) = Unit {0}
+IsAnswered c (Does orders.Bad) = Unit {0}
+IsAnswered c (Takes message) = IsTaken (at_work by_history c).state message (state_after (respond by_history c (Takes message)))
 
 -- the history goes on, and what was accepted, or waited for its causes, is accepted, or waits for them
 abbrev pub GoesOn : State → State → Type 0
 GoesOn t u = IsFront t.history u.history × ((o : Op) → HasOrHolds t o → HasOrHolds u o)
 
+-- What is shown with a draft is made: each edit that the draft means has no fault, its operation is accepted, and nothing else happens; the text is
+-- then what was shown; and the history goes on from there to the one that is stored, in which these edits so stand.
+pub record IsDraftMade (u : State) (c : Seat State) : Type 0 where
+  pub edits : let t = (c.sitting).state in AreMade (allowed_by fault_in) t (plan by_history t c.draft) (at_work by_history c).state
+  pub text : text_in (at_work by_history c).state ≡ shown by_history c
+  pub goes_on : GoesOn (at_work by_history c).state u
+
+-- before a request the draft is made, unless a change goes on with it, and nothing is made yet
+abbrev pub IsMadeBefore : State → Seat State → Request → Type 0
+IsMadeBefore u c (Does (orders.Change at n cs)) = let b = (respond by_history c (Does (orders.Change at n cs))).state in
+    (b.sitting ≡ c.sitting) ⊎ ((b.sitting ≡ at_work by_history c) × IsDraftMade u c)
+IsMadeBefore u c request = IsDraftMade u c
+
 -- and from what it made the history goes on to the one that is stored
-abbrev pub IsStored : State → Sitting State → Request → Type 0
-IsStored u d request = GoesOn ((answer by_history d request).state).state u × IsAnswered d request
+abbrev pub IsStored : State → Seat State → Request → Type 0
+IsStored u c request = IsMadeBefore u c request × GoesOn (state_after (respond by_history c request)) u × IsAnswered c request
 
 -- what a command calls for stores a file and has this report
 abbrev pub HasReport : Option Due → (List ℕ → Type 0) → Type 0
@@ -129,7 +193,8 @@ HasReport (Some (Stops e)) P = ⊥
 -- by the run
 abbrev pub IsMeant : Group → ℕ → State → Deed → State → Type 0
 IsMeant g i t (Commands words input) u = HasReport (due_of g i words input) (λ report. IsCommanded (command_of words) input report t u)
-IsMeant g i t (Sits desk input) u = ((session_due g i desk input).replies ≡ (session_at by_history t desk input).replies) × holds (answer by_history) (IsStored u) (at_desk t desk) input
+IsMeant g i t (Sits desk input) u = let first = seated (at_desk t desk) in
+    ((session_due g i desk input).replies ≡ (session_at by_history t desk input).replies) × holds (respond by_history) (IsStored u) first input × IsDraftMade u (course (respond by_history) first input).state
 
 -- ---- histories
 
@@ -173,8 +238,8 @@ pub record InOneOrder (group members : ℕ) (es : List Event) (l : Life) : Type 
 
 -- Whatever the members of a group do by commands and sessions, each over its own file, whatever fails or stops of it, and however the messages
 -- that may be handed on are passed on: no operation is refused, edits release nothing, what waits was made by its author, each message is
--- taken, members whose counts are equal show the same, one order orders the texts of all files at all times, and each edit and each message
--- whose file was stored stands in the history with the effect that was asked for.
+-- taken, members whose counts are equal show the same, one order orders the texts of all files at all times, and each edit, each message and each
+-- change of an editor whose file was stored stands in the history with the effect that was asked for.
 abbrev pub GroupsConverge : Type 0
 GroupsConverge = (group members : ℕ) (es : List Event) → IsLarge group → 0 < members → members ≤ MEMBERS → AreOfGroup (fresh_group group members) es → let l = lived_all (begun group members) es in
     BeginsWithNew group members × NoneRefused l.group × NoneReleased l.group × WaitingMade l.group × AllTaken l.group × EqualCountsShowSame l.group × SessionsClean l.group × EachMeant group members es × InOneOrder group members es l

@@ -1,5 +1,5 @@
 -- What a run of the program leaves of its member's file, and what it prints, by the clauses of `run` and `serve`: it is an event of the group.
-use Rattle.std.specs.Prelude.{◌≡◌, ◌≢◌, ◌⊎◌, ◌<◌, ◌++◌, ℕ, Bool, true, List, [], ◌∷◌, length, take, slice_get, Option, Some, IfSome, IfOk, IsFalse}
+use Rattle.std.specs.Prelude.{◌≡◌, ◌≢◌, ◌⊎◌, ◌<◌, ◌++◌, ℕ, Bool, true, List, [], ◌∷◌, length, take, slice_get, Option, Some, IfOk, IsFalse}
 use Rattle.rls_ident.specs.Lists.{IsIn}
 use Rattle.rls_codec.specs.CodecLaws.{IsBytes}
 use Rattle.rls_model.specs.Receiving.{State}
@@ -19,11 +19,12 @@ use Rattle.rls_session.specs.Devices.{Devices}
 use Rattle.rls_session.specs.Due as session
 use Rattle.rls_session.specs.Replies.{saved_text}
 use Rattle.rls_session.specs.Serving.{SessionEnds}
-use Rattle.rls_session.specs.Answers.{Sitting, sitting_at, stretches_by}
+use Rattle.rls_session.specs.Answers.{Sitting, sitting_at}
 use Rattle.rls_session.specs.Courses.{Stretch}
+use Rattle.rls_session.specs.Seats.{Seat, stretches_by}
 use Rattle.rls_session.specs.Sessions.{by_history, by_parts}
 use Rattle.rls_groups.specs.Stops.{LeavesOldOrDue, LeavesOldOrStores}
-use Rattle.rls_groups.specs.Events.{Commands, Deed, Sits, after_run, empty_desk, replica_at, session_at, session_due}
+use Rattle.rls_groups.specs.Events.{Commands, Deed, Desk, Sits, after_run, empty_desk, replica_at, session_at, session_due}
 
 -- the member's file, as the group has it
 abbrev pub file_at : Group → ℕ → Option (List ℕ)
@@ -63,11 +64,15 @@ SessionsLeave {K} S W load store = (g : Group) (i : ℕ) (input : List ℕ) (n :
     × (n ≡ 9 → IsLeft g i deed now)
     × (n ≢ 0 → n ≢ 9 → now ≡ file_at g i)
 
--- the deeds of a session that begins at this state, one for each of its stores and one for its end
-abbrev pub deed_of : Stretch (Sitting State) → Deed
-deed_of a = Sits (record { entries = (a.state).entries; cursors = (a.state).cursors; recorded = (a.state).recorded; tells = (a.state).tells }) a.input
+-- what a session works on beside the replica, at this sitting
+abbrev pub desk_of : Sitting State → Desk
+desk_of d = record { entries = d.entries; cursors = d.cursors; recorded = d.recorded; tells = d.tells }
 
-abbrev pub deeds_of : List (Stretch (Sitting State)) → List Deed
+-- the deeds of a session that begins at this state, one for each of its stores and one for its end. Where one begins, nothing is drafted
+abbrev pub deed_of : Stretch (Seat State) → Deed
+deed_of a = Sits (desk_of (a.state).sitting) a.input
+
+abbrev pub deeds_of : List (Stretch (Seat State)) → List Deed
 deeds_of [] = []
 deeds_of (a ∷ others) = deed_of a ∷ deeds_of others
 
