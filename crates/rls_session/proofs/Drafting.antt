@@ -1,21 +1,18 @@
 -- What becomes of a draft, case by case.
-use Rattle.std.proofs.Common.{◌≡◌, ◌∙◌, ◌<◌, ◌≤◌, ◌+◌, ◌&&◌, ℕ, zero, suc, Bool, true, false, cond, eqb, nat_lt, List, [], ◌∷◌, length, Option, Some, None, Result, Ok, Err, IfOk, OnOk, refl, sym, ap, subst, arith}
+use Rattle.std.proofs.Common.{◌≡◌, ◌∙◌, ◌<◌, ◌≤◌, ◌+◌, ◌&&◌, ℕ, Bool, true, false, cond, eqb, nat_lt, List, [], ◌∷◌, length, Some, None, Result, Ok, Err, IfOk, OnOk, refl, sym, ap, subst, arith}
 use Rattle.std.proofs.lemmas.Bool.Decides.{nat_tests}
 use Rattle.std.proofs.lemmas.List.{length-map}
 use Rattle.rls_file.specs.Stored.{AreWritable}
 use Rattle.rls_file.proofs.Storable.{IsSized, all_sized, edited_sized, sized}
 use Rattle.std.specs.Prelude.{◌-◌, ◌^◌, nat_le, not}
-use Rattle.rls_ident.proofs.Members.{and_left, and_right, le_is, not_is, not_true, true_false}
+use Rattle.rls_ident.proofs.Members.{and_left, and_right, le_is, not_is}
 use Rattle.rls_model.specs.declared.edit.Edit.{Edit}
 use Rattle.rls_model.specs.declared.edit.Edit.TheVariants.{Insert, Delete}
-use Rattle.rls_model.specs.declared.edit.EditError.{EditError}
-use Rattle.rls_model.specs.declared.edit.EditError.TheVariants as errors
 use Rattle.rls_model.specs.EditParts.{or_fault}
 use Rattle.rls_model.specs.WellFormed.{IsText}
 use Rattle.rls_model.proofs.Made.{or_none}
-use Rattle.rls_ops.specs.declared.op.Op.{Op}
 use Rattle.rls_runs.proofs.Sorted.{Entry}
-use Rattle.rls_seen.specs.Edits.{IsFault, edit_fault_over, made_over}
+use Rattle.rls_seen.specs.Edits.{edit_fault_over}
 use Rattle.rls_seen.specs.Over.{released_all}
 use Rattle.rls_seen.specs.Sane.{IsSane}
 use Rattle.rls_seen.specs.Seen.{Seen, text_over}
@@ -28,8 +25,8 @@ use Rattle.rls_session.specs.Answering.{IsAnswered}
 use Rattle.rls_session.specs.Answers.{Kind, Sitting, answer, done, made_sitting, take_told, with_state}
 use Rattle.rls_session.specs.Replies.{noted_text}
 use Rattle.rls_session.specs.Requests.{Does, Takes}
-use Rattle.rls_session.specs.Drafts.{is_none, is_small, joined, joins, merged, no_draft, touches}
-use Rattle.rls_session.specs.Seats.{IsDrafted, Seat, at_rest, at_work, begun_at, changed, draft_fault, goes_before, goes_with, has_none, insertion_by, insertion_fault, is_before, made_all, made_each, making_fault, number_fault, plan, replacing, respond, says_at, seat_of, seated, tuples_at, tuples_by, tuples_in}
+use Rattle.rls_session.specs.Drafts.{is_none, is_small, joins, merged, no_draft, touches}
+use Rattle.rls_session.specs.Seats.{IsDrafted, Seat, at_rest, at_work, begun_at, changed, draft_fault, goes_before, goes_with, insertion_fault, made_all, made_each, making_fault, plan, replacing, respond, says_at, seat_of, seated}
 use Rattle.rls_session.specs.Sessions.{by_parts}
 use Rattle.rls_session.proofs.Fitting.{AreFit, made_draft}
 
@@ -44,37 +41,14 @@ is_more n h = grind (arith, nat_tests)
 -- ---- the edits of a draft
 
 module _ {X : Type 0} (K : Kind X) (s : X) (p : Draft) where
-  plan_none : is_none p ≡ true → plan K s p ≡ []
-  plan_none = go (eqb p.count 0) (eqb (length p.text) 0)
-    where
-      go : (a b : Bool) → (a && b) ≡ true → cond a (cond b [] (Insert p.at p.text ∷ [])) (cond b (Delete p.at p.count ∷ []) (replacing (goes_before K s p) p)) ≡ []
-      go true true e = refl
-      go true false e = cc
-      go false b e = cc
-
-  plan_inserts : p.count ≡ 0 → 0 < length p.text → plan K s p ≡ Insert p.at p.text ∷ []
-  plan_inserts e h = rw (is_zero p.count e, is_more (length p.text) h) refl
-
-  plan_deletes : 0 < p.count → length p.text ≡ 0 → plan K s p ≡ Delete p.at p.count ∷ []
-  plan_deletes h e = rw (is_more p.count h, is_zero (length p.text) e) refl
-
   plan_replaces : 0 < p.count → 0 < length p.text → plan K s p ≡ replacing (goes_before K s p) p
   plan_replaces h k = rw (is_more p.count h, is_more (length p.text) k) refl
 
   fault_inserts : p.count ≡ 0 → draft_fault K s p ≡ K.fault s (Insert p.at p.text)
   fault_inserts e = rw (is_zero p.count e) refl
 
-  fault_deletes : 0 < p.count → length p.text ≡ 0 → draft_fault K s p ≡ or_fault (K.fault s (Delete p.at p.count)) None
-  fault_deletes h e = rw (is_more p.count h, is_zero (length p.text) e) refl
-
-  fault_replaces : 0 < p.count → 0 < length p.text → draft_fault K s p ≡ or_fault (K.fault s (Delete p.at p.count)) (or_fault (K.fault s (insertion_by (goes_before K s p) p)) (number_fault K s))
-  fault_replaces h k = rw (is_more p.count h, is_more (length p.text) k) refl
-
   pub fault_some : is_none p ≡ false → making_fault K s p ≡ None → draft_fault K s p ≡ None
   fault_some e h = subst (λ (b : Bool). cond b None (draft_fault K s p) ≡ None) e h
-
-  pub none_fault : is_none p ≡ true → making_fault K s p ≡ None
-  none_fault e = rw e refl
 
   pub drafted_so : draft_fault K s p ≡ None → making_fault K s p ≡ None
   drafted_so e = go (is_none p)
@@ -82,10 +56,6 @@ module _ {X : Type 0} (K : Kind X) (s : X) (p : Draft) where
       go : (b : Bool) → cond b None (draft_fault K s p) ≡ None
       go true = refl
       go false = e
-
--- nothing is made of a draft that says nothing
-pub made_none : {X : Type 0} (K : Kind X) (d : Sitting X) (p : Draft) → is_none p ≡ true → at_work K (seat_of d p) ≡ d
-made_none K d p e = ap (made_all K d) (plan_none K d.state p e)
 
 -- after its edits
 pub made_some : {X : Type 0} (K : Kind X) (d : Sitting X) (p : Draft) → is_none p ≡ false → at_work K (seat_of d p) ≡ at_rest K (made_each K d (plan K d.state p))
@@ -124,16 +94,6 @@ deletion_first s p some h =
     let g = insertion_fault by_parts s p in
     (or_none f g (subst (λ (b : Bool). cond b (edit_fault_over s (Insert p.at p.text)) (or_fault f g) ≡ None) (is_more p.count some) h)).0
 
-pub made_insertion : (d : Sitting Seen) (p : Draft) → p.count ≡ 0 → is_none p ≡ false → made_each by_parts d (plan by_parts d.state p) ≡ made_sitting by_parts d (Insert p.at p.text)
-made_insertion d p e some = ap (made_each by_parts d) (plan_inserts by_parts d.state p e (go (length p.text) refl))
-  where
-    go : (n : ℕ) → length p.text ≡ n → 0 < length p.text
-    go zero is = absurd (cc)
-    go (suc n) is = omega arith
-
-pub made_deletion : (d : Sitting Seen) (p : Draft) → 0 < p.count → length p.text ≡ 0 → made_each by_parts d (plan by_parts d.state p) ≡ made_sitting by_parts d (Delete p.at p.count)
-made_deletion d p some e = ap (made_each by_parts d) (plan_deletes by_parts d.state p some e)
-
 pub made_replacing : (d : Sitting Seen) (p : Draft) → 0 < p.count → 0 < length p.text → made_each by_parts d (plan by_parts d.state p) ≡ made_each by_parts d (replacing (goes_before by_parts d.state p) p)
 made_replacing d p some text = ap (made_each by_parts d) (plan_replaces by_parts d.state p some text)
 
@@ -147,90 +107,6 @@ side_is d p s b side f found is = sym is ∙ found ∙ ap (λ (x : Seen). goes_b
 pub side_fits : (d : Sitting Seen) (p : Draft) (r s : Seen) (b side : Bool) → r ≡ d.state → IsSane r → s ≡ d.state → b ≡ goes_before by_parts s p → b ≡ side → IsText p.text → 0 < p.count → 0 < length p.text → draft_fault by_parts d.state p ≡ None → AreFit d.state (replacing side p)
 side_fits d p r s b side e sane f found is text some more h =
     subst (λ (x : Bool). AreFit d.state (replacing x p)) (sym (side_is d p s b side f found is)) (replacing_fits d p (subst IsSane e sane) text some more h)
-
--- ---- the first fault of a draft
-
-first_fault : (e : EditError) (f g : Option EditError) → IsFault e f → IsFault e (or_fault f g)
-first_fault errors.OutOfMemory f g h = tt
-first_fault e f g h = rw h refl
-
-second_fault : (e : EditError) (f g : Option EditError) → f ≡ None → IsFault e g → IsFault e (or_fault f g)
-second_fault e f g is h = subst (λ (x : Option EditError). IsFault e (or_fault x g)) (sym is) h
-
--- there is no memory
-pub memory_fault : (e : EditError) (f : Option EditError) → e ≡ errors.OutOfMemory → IsFault e f
-memory_fault e f is = subst (λ (x : EditError). IsFault x f) (sym is) tt
-
-module _ (s : Seen) (p : Draft) where
-  pub checked_insertion : p.count ≡ 0 → edit_fault_over s (Insert p.at p.text) ≡ None → draft_fault by_parts s p ≡ None
-  checked_insertion e h = fault_inserts by_parts s p e ∙ h
-
-  pub insertion_fails : (e : EditError) → p.count ≡ 0 → IsFault e (edit_fault_over s (Insert p.at p.text)) → IsFault e (draft_fault by_parts s p)
-  insertion_fails e none h = subst (IsFault e) (sym (fault_inserts by_parts s p none)) h
-
-  pub deletion_fails : (e : EditError) → 0 < p.count → IsFault e (edit_fault_over s (Delete p.at p.count)) → IsFault e (draft_fault by_parts s p)
-  deletion_fails e some h = rw (is_more p.count some) (first_fault e (edit_fault_over s (Delete p.at p.count)) _ h)
-
-  pub checked_deletion : 0 < p.count → length p.text ≡ 0 → edit_fault_over s (Delete p.at p.count) ≡ None → draft_fault by_parts s p ≡ None
-  checked_deletion some none h = fault_deletes by_parts s p some none ∙ ap (λ f. or_fault f None) h
-
-  pub text_fails : (e : EditError) → 0 < p.count → 0 < length p.text → edit_fault_over s (Delete p.at p.count) ≡ None → IsFault e (edit_fault_over s (insertion_by (goes_before by_parts s p) p)) → IsFault e (draft_fault by_parts s p)
-  text_fails e some text d h = subst (IsFault e) (sym (fault_replaces by_parts s p some text)) (second_fault e (edit_fault_over s (Delete p.at p.count)) _ d (first_fault e _ (number_fault by_parts s) h))
-
-  pub numbers_fail : (e : EditError) → 0 < p.count → 0 < length p.text → edit_fault_over s (Delete p.at p.count) ≡ None → edit_fault_over s (insertion_by (goes_before by_parts s p) p) ≡ None → number_fault by_parts s ≡ Some e → IsFault e (draft_fault by_parts s p)
-  numbers_fail e some text d i h = subst (IsFault e) (sym (fault_replaces by_parts s p some text)) (second_fault e (edit_fault_over s (Delete p.at p.count)) _ d (second_fault e (edit_fault_over s (insertion_by (goes_before by_parts s p) p)) _ i (some_fault e (number_fault by_parts s) h)))
-    where
-      some_fault : (e : EditError) (f : Option EditError) → f ≡ Some e → IsFault e f
-      some_fault errors.OutOfMemory f h = tt
-      some_fault e f h = h
-
-  pub checked_all : 0 < p.count → 0 < length p.text → edit_fault_over s (Delete p.at p.count) ≡ None → edit_fault_over s (insertion_by (goes_before by_parts s p) p) ≡ None → number_fault by_parts s ≡ None → draft_fault by_parts s p ≡ None
-  checked_all some text d i n =
-      fault_replaces by_parts s p some text
-      ∙ (ap (λ f. or_fault f (or_fault (edit_fault_over s (insertion_by (goes_before by_parts s p) p)) (number_fault by_parts s))) d ∙ (ap (λ f. or_fault f (number_fault by_parts s)) i ∙ n))
-
--- ---- where its text goes
-
--- an insertion that has tuples has no fault
-tuples_fit : (f : Option EditError) (o : Op) (n : ℕ) → tuples_by f o ≡ Some n → f ≡ None
-tuples_fit None o n e = refl
-tuples_fit (Some x) o n e = absurd (cc)
-
-module _ (s : Seen) (p : Draft) where
-  before_fits : (m n : Option ℕ) → m ≡ tuples_at by_parts s p.at p.text → n ≡ tuples_at by_parts s (p.at + p.count) p.text → is_before m n ≡ goes_before by_parts s p
-  before_fits m n e f = ap (λ x. is_before x n) e ∙ ap (is_before (tuples_at by_parts s p.at p.text)) f
-
-  -- behind, since it begins a stem before
-  pub behind_alone : None ≡ tuples_at by_parts s p.at p.text → false ≡ goes_before by_parts s p
-  behind_alone e = ap (λ m. is_before m (tuples_at by_parts s (p.at + p.count) p.text)) e
-
-  -- before, since it begins one behind
-  pub before_alone : (m : ℕ) → Some m ≡ tuples_at by_parts s p.at p.text → None ≡ tuples_at by_parts s (p.at + p.count) p.text → true ≡ goes_before by_parts s p
-  before_alone m e f = before_fits (Some m) None e f
-
-  pub by_tuples : (m n : ℕ) → Some m ≡ tuples_at by_parts s p.at p.text → Some n ≡ tuples_at by_parts s (p.at + p.count) p.text → nat_lt m n ≡ goes_before by_parts s p
-  by_tuples m n e f = before_fits (Some m) (Some n) e f
-
-  pub found_fits : (b : Bool) → b ≡ goes_before by_parts s p → edit_fault_over s (insertion_by b p) ≡ None → edit_fault_over s (insertion_by (goes_before by_parts s p) p) ≡ None
-  found_fits b e h = subst (λ (x : Bool). edit_fault_over s (insertion_by x p) ≡ None) e h
-
-  pub before_fit : (m : ℕ) → Some m ≡ tuples_at by_parts s p.at p.text → edit_fault_over s (Insert p.at p.text) ≡ None
-  before_fit m e = tuples_fit (edit_fault_over s (Insert p.at p.text)) (made_over s (Insert p.at p.text)) m (sym e)
-
-  pub both_fit : (m n : ℕ) → Some m ≡ tuples_at by_parts s p.at p.text → Some n ≡ tuples_at by_parts s (p.at + p.count) p.text → (b : Bool) → edit_fault_over s (insertion_by b p) ≡ None
-  both_fit m n e f true = before_fit m e
-  both_fit m n e f false = tuples_fit (edit_fault_over s (Insert (p.at + p.count) p.text)) (made_over s (Insert (p.at + p.count) p.text)) n (sym f)
-
-  pub behind_fails : (e : EditError) → None ≡ tuples_at by_parts s p.at p.text → IsFault e (edit_fault_over s (Insert (p.at + p.count) p.text)) → IsFault e (edit_fault_over s (insertion_by (goes_before by_parts s p) p))
-  behind_fails e none h = subst (λ (b : Bool). IsFault e (edit_fault_over s (insertion_by b p))) (behind_alone none) h
-
--- the tuples of an operation that was made
-pub tuples_made : (s : Seen) (at : ℕ) (cs : List ℕ) (o : Op) → edit_fault_over s (Insert at cs) ≡ None → o ≡ made_over s (Insert at cs) → tuples_in o.seq o.body ≡ tuples_at by_parts s at cs
-tuples_made s at cs o f e = ap (λ (x : Op). tuples_in x.seq x.body) e ∙ ap (λ f. tuples_by f (made_over s (Insert at cs))) (sym f)
-
-pub tuples_none : (s : Seen) (at : ℕ) (cs : List ℕ) (e : EditError) → (e ≡ errors.OutOfMemory → ⊥) → IsFault e (edit_fault_over s (Insert at cs)) → None ≡ tuples_at by_parts s at cs
-tuples_none s at cs errors.OutOfMemory other h = absurd (other refl)
-tuples_none s at cs e other h = rw h refl
 
 -- ---- a change goes on with a draft
 
@@ -264,34 +140,6 @@ joins_low total p c e =
     let front = nat_le c.at (p.at + length p.text) in
     let back = nat_le p.at (c.at + c.count) in
     (not_is (is_none p) (and_right a b two), le_is c.at (p.at + length p.text) (and_left front back touching), le_is p.at (c.at + c.count) (and_right front back touching))
-
--- nothing goes on with a draft that says nothing
-pub none_joins : (s : Seen) (p c : Draft) → is_none p ≡ true → goes_with by_parts s p c ≡ false
-none_joins s p c e =
-    let total = length (text_over s) in
-    ap (λ b. b && has_none (making_fault by_parts s (merged p c))) (not_true (joins total p c) (λ j. true_false (is_none p) e (joins_low total p c j).0))
-
-pub unjoined : (s : Seen) (p c : Draft) (total : ℕ) → total ≡ length s.text → None ≡ joined total p c → goes_with by_parts s p c ≡ false
-unjoined s p c total t e = go (joins total p c) refl
-  where
-    go : (b : Bool) → joins total p c ≡ b → goes_with by_parts s p c ≡ false
-    go true is = absurd (let h : None ≡ Some (merged p c) = rw is at e in cc)
-    go false is = ap (λ n. joins n p c && has_none (making_fault by_parts s (merged p c))) (total_is s ∙ sym t) ∙ ap (λ b. b && has_none (making_fault by_parts s (merged p c))) is
-
--- what is joined
-pub joined_is : (s : Seen) (p c d : Draft) (total : ℕ) → total ≡ length s.text → Some d ≡ joined total p c → (d ≡ merged p c) × (goes_with by_parts s p c ≡ has_none (making_fault by_parts s (merged p c)))
-joined_is s p c d total t e = go (joins total p c) refl
-  where
-    go : (b : Bool) → joins total p c ≡ b → (d ≡ merged p c) × (goes_with by_parts s p c ≡ has_none (making_fault by_parts s (merged p c)))
-    go true is =
-        let h : Some d ≡ Some (merged p c) = rw is at e in
-        (cc, ap (λ n. joins n p c && has_none (making_fault by_parts s (merged p c))) (total_is s ∙ sym t) ∙ ap (λ b. b && has_none (making_fault by_parts s (merged p c))) is)
-    go false is = absurd (let h : Some d ≡ None = rw is at e in cc)
-
--- a fault that isn't want of memory
-pub refused_fault : (e : EditError) (f : Option EditError) → (e ≡ errors.OutOfMemory → ⊥) → IsFault e f → has_none f ≡ false
-refused_fault errors.OutOfMemory f other h = absurd (other refl)
-refused_fault e f other h = rw h refl
 
 -- ---- requests
 
