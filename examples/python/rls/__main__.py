@@ -10,6 +10,7 @@ from typing import List, Optional, Tuple
 from .circle import Circle, Seat, circles_in
 from .desk import Desk, say
 from .errors import RlsError, Stale, Trouble
+from .files import Busy
 from .giver import Giver
 from .handing import give_part, giver_name
 from .home import homes
@@ -194,7 +195,7 @@ def where(words: argparse.Namespace) -> int:
         if only in (None, path) and words.text in (None, text.name) and circle.has(text.group):
             try:
                 Note(circle, text, None if path == "-" else path, say).settle()
-            except RlsError:
+            except (RlsError, Busy):
                 pass                                    # another program has it open
             print(f"{circle.replica(text.group)}\t{circle.shared}\t{text.name}\t{path}\t{circle.seat.name}")
     return 0

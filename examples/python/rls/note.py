@@ -3,7 +3,7 @@ file gets what came."""
 import hashlib
 import json
 import os
-from typing import Any, Callable, Dict, List, Optional, Tuple
+from typing import Any, Callable, Dict, List, Optional, Sequence, Tuple
 
 from .circle import Circle, Quiet, Text
 from .errors import RlsError, Trouble
@@ -20,6 +20,7 @@ MOST_SAVES = 10                 # that may come between in one round
 SHORT = 200                     # characters of a text that may go as a whole
 Say = Callable[[str], None]
 BaseOf = Callable[[str, Look], str]
+Versions = Sequence[str]
 Seen = Tuple[str, List[Look], Look]     # the looks of a text's messages, of its replica and of its file
 
 
@@ -75,7 +76,7 @@ class Note:
             # Begun anew under another number: the file's changes go into the text, so that has to be there first.
             box.receive(session)
             if not any(session.head().counts):
-                self._send(box, session)
+                box.send(session)
                 self.say(f"{self.text.name}: waits for the text, which others send once they have seen this number.")
                 return []
         self._go_on(session)
@@ -102,17 +103,17 @@ class Note:
             raise RlsError(4, f"{path or self.path} is no text in UTF-8; nothing of it was taken") from None
 
     # -- from the file into the replica
-    def _bring_in(self, session: Session, new: str, file_look: Look, base_of: BaseOf) -> None:
-        """What a save has changed goes into the replica, whose text may have gone on since."""
+    def _bring_in(self, session: Session, new: str, file_look: Look, base_of: BaseOf, over: Versions = ()) -> None:
+        """What a save has changed goes into the replica, whose text may have gone on since. `over` is what was written over the save."""
         text = session.text()
         if new != text and new != self.last():
             lines = lines_of(carried(base_of(new, file_look), new, text))
             # If this is stopped, the count of own operations tells the next round whether the edits were stored: all of them are at once.
-            self.state["pending"] = [new, session.head().counts[self.circle.me] + len(lines)]
+            self.state["pending"] = [[new, *over], session.head().counts[self.circle.me] + len(lines)]
             self._store(None)
             session.edit(lines)
         if new != self.last():
-            self._saved(new)
+            self._saved(new, over)
 
     def _base_of(self, mine: bool) -> BaseOf:
         """The state that a save in the file was made from: the last version, or an older one."""
@@ -145,7 +146,7 @@ class Note:
         """After a round that was stopped: what it had brought in is a state that a save may have begun from."""
         pending = self.state["pending"]
         if pending and session.head().counts[self.circle.me] >= pending[1]:
-            self._saved(pending[0])
+            self.state["versions"] = pending[0]
         self.state["pending"] = None
         self._take_left_over(session, self.versions[:-1] or self.versions)
 
@@ -156,9 +157,9 @@ class Note:
             text = self._understood(found.data, left).text if found else ""
             if found and text not in self.versions:
                 base, last = older_base(versions, text) if versions else "", self.versions[-1:]
-                self._bring_in(session, text, [], lambda new, at: versions[-1] if base is None else base)
+                self._bring_in(session, text, [], lambda new, at: versions[-1] if base is None else base, last)
                 session.rename_if_due()
-                self.state["versions"] = [text] + last
+                self.state["pending"] = None
             self._store(None)
             os.unlink(left)
 
@@ -190,9 +191,9 @@ class Note:
                 session.rename_if_due()
         return []
 
-    def _saved(self, text: str) -> None:
-        """Somebody has saved this, and it is in the replica: whatever is saved next was made from it, or from what is written over it."""
-        self.state["versions"] = [text]
+    def _saved(self, text: str, over: Versions = ()) -> None:
+        """Somebody has saved this, and it is in the replica: whatever is saved next was made from it, or from what was written over it."""
+        self.state["versions"] = [text, *over]
 
     def _written(self, text: str) -> None:
         versions = self.versions

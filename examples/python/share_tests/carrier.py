@@ -83,6 +83,6 @@ class Carrier:
         for _ in range(60):
             self.step(0)
             for p in self.people:
-                p.rls("sync")
+                p.rls("sync", "--wait", "20")
         for p in self.people:
-            assert p.rls("sync") == 0, p.said
+            assert p.rls("sync", "--wait", "20") == 0, p.said

@@ -2,15 +2,15 @@
 
 A step is a change of a name, a sync, a program that is started, or a line to a session. HOW is `alone` (the programs that it started see the end of
 their input, and store), `all` (they are stopped, too) or `half` (so are they, and what was being written is cut in half). The status is 9 if it was
-stopped, and otherwise that of the command."""
+stopped, and otherwise that of the command. The environment's BETWEEN is what somebody saves just before the first file is replaced."""
 import os
 import signal
 import subprocess
 import sys
-from typing import Any
+from typing import Any, Optional
 
 from rls import __main__ as cli
-from rls import files
+from rls import files, note
 from rls.session import Session
 
 
@@ -38,7 +38,23 @@ class Dying:
         setattr(of, name, call)
 
 
+def save_between(text: str) -> None:
+    """Somebody saves this when a file is about to be replaced."""
+    real, put, done = os.replace, note.put, []
+
+    def call(path: str, data: bytes, expected: Optional[bytes]) -> files.Put:
+        if not done:
+            done.append(1)
+            with open(path + ".editor", "w", encoding="utf-8") as f:
+                f.write(text)
+            real(path + ".editor", path)
+        return put(path, data, expected)
+    note.put = call
+
+
 if __name__ == "__main__":
+    if "BETWEEN" in os.environ:
+        save_between(os.environ["BETWEEN"])
     dying = Dying(int(sys.argv[1]), sys.argv[2])
     for of, name in [(os, "replace"), (os, "rename"), (os, "link"), (os, "unlink"), (os, "fsync"), (os, "makedirs"), (subprocess, "run"), (files, "renamed"), (Session, "_put")]:
         dying.dying(of, name)

@@ -52,7 +52,7 @@ class Game:
             if p.dies(self.r.randint(1, 90), self.r.choice(["all", "half", "alone"]), "sync"):
                 self.count("a sync that was stopped")
                 return
-        status = p.rls("sync")
+        status = p.rls("sync", "--wait", "20")
         assert status == 0, (p.name, status, p.said)
 
     def step(self, now: int) -> None:

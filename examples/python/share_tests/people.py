@@ -47,9 +47,9 @@ class Person:
         self.out, self.said = out.getvalue(), err.getvalue()
         return status
 
-    def dies(self, step: int, how: str, *words: str) -> bool:
-        """Whether the command was stopped at this step (dying.py); it has ended before otherwise."""
-        env = {**os.environ, "RLS_HOME": self.home, "USER": self.name, "PYTHONPATH": TOP, "PYTHONDONTWRITEBYTECODE": "1"}
+    def dies(self, step: int, how: str, *words: str, **more: str) -> bool:
+        """Whether the command was stopped at this step (dying.py); it has ended before otherwise. `more` is for its environment."""
+        env = {**os.environ, **more, "RLS_HOME": self.home, "USER": self.name, "PYTHONPATH": TOP, "PYTHONDONTWRITEBYTECODE": "1"}
         p = subprocess.run([sys.executable, "-m", "share_tests.dying", str(step), how, *words], env=env, cwd=self.folder, capture_output=True, start_new_session=True)
         self.said = p.stderr.decode()
         assert "Traceback" not in self.said, self.said
@@ -143,7 +143,7 @@ def spares(at_least: int = 0, each: float = 0) -> Iterator[None]:
 
 def all_sync(people: Iterable[Person]) -> None:
     for p in people:
-        assert p.rls("sync") == 0, (p.name, p.said)
+        assert p.rls("sync", "--wait", "20") == 0, (p.name, p.said)         # what was stopped may still store
 
 
 def stat(p: Person) -> Stat:

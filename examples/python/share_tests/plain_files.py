@@ -207,6 +207,25 @@ def test_dies_at_each_step() -> None:
         assert os.listdir(ben.folder) == ["a.md"], os.listdir(ben.folder)
 
 
+def test_dies_with_a_save_in_between() -> None:
+    """The same, and an editor saves just when the file is to be replaced: from what was there before, and at the place of Ada's word."""
+    ada, ben = started("each-between", "one two three four\n")
+    ada.write("one two ADA three four\n")
+    all_sync([ada])
+    ben.write("one two BEN three four\n")
+    for step, how, died in Moment(ada, ben).at_each_step(5):
+        died(ben.dies(step, how, "sync", BETWEEN="one two BEN AGAIN three four\n"))
+        saved = [x for x in os.listdir(ben.folder) if x.endswith(".editor")]
+        for x in saved:
+            os.unlink(os.path.join(ben.folder, x))
+        has_again = any("AGAIN" in ben.read(x) for x in os.listdir(ben.folder))
+        all_sync([ben, ada, ben, ada])
+        wanted = ["ADA"] + ["AGAIN"] * ("AGAIN" in ada.read()) + ["BEN", "four", "one", "three", "two"]
+        assert has_again <= ("AGAIN" in ada.read()), (how, step)
+        assert ada.read() == ben.read() and sorted(ada.read().split()) == wanted, (how, step, ben.read())
+        assert os.listdir(ben.folder) == ["a.md"], os.listdir(ben.folder)
+
+
 def test_same_file_again() -> None:
     """A file that has lost most of its text isn't taken because somebody looks at it again: it has to be saved again."""
     ada, ben = started("again", "a long text of many words\n" * 20)
