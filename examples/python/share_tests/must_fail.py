@@ -44,6 +44,8 @@ RULES = [
     ("for a new number what others are known to have counts", "note", '                self.state["known"] = sent', '                pass\n        self.state["known"] = text', "overwritten_message"),
     ("what has lost its place is looked at", "files", "    if saved and saved.data != expected:", "    if False:", "save_in_between"),
     ("a writer is waited for", "files", "        return False if e.errno in (errno.EAGAIN, errno.EBUSY) else None", "        return True", "save_in_between"),
+    ("what was written over a save is kept after a stop", "note", "[[new, *over], ", "[[new], ", "dies_with_a_save_in_between"),
+    ("what has lost its place is in the replica before it goes", "note", "                session.rename_if_due()\n                self.state[\"pending\"] = None\n            self._store(None)\n            os.unlink(left)", "                os.unlink(left)\n                session.rename_if_due()\n                self.state[\"pending\"] = None\n            self._store(None)\n            os.path.lexists(left) and os.unlink(left)", "dies_with_a_save_in_between"),
     ("half of a new file is nobody's save", "files", '(beside(path, "old"), beside(path, "next"))', '(beside(path, "old"), beside(path, "next"), beside(path, "new"))', "dies_at_each_step"),
     ("a file that was deleted meanwhile is no empty one", "files", "        return Put([])                                  #", "        open(path, 'wb').close()\n        open(following, 'wb').close()\n        return Put(told, True)  #", "deleted_in_between"),
     ("what both did alike is done once", "merge", "        if (i0, i1, mine[j0:j1]) in done:\n            continue\n", "", "carried"),
