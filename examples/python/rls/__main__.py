@@ -193,12 +193,19 @@ def where(words: argparse.Namespace) -> int:
     for text in circle.texts():
         path = desk.files.get(str(text.group), "-")
         if only in (None, path) and words.text in (None, text.name) and circle.has(text.group):
-            try:
-                Note(circle, text, None if path == "-" else path, say).settle()
-            except (RlsError, Busy):
-                pass                                    # another program has it open
+            settle(circle, Note(circle, text, None if path == "-" else path, say))
             print(f"{circle.replica(text.group)}\t{circle.shared}\t{text.name}\t{path}\t{circle.seat.name}")
     return 0
+
+
+def settle(circle: Circle, note: Note) -> None:
+    """After a round that was stopped, before an editor opens the replica."""
+    try:
+        if note.state["pending"]:
+            with circle.hold():
+                note.settle()
+    except (RlsError, Busy, Trouble):
+        pass                                            # another program has it open
 
 
 def drop(words: argparse.Namespace) -> int:

@@ -59,6 +59,7 @@ class Home:
         """Nobody else on this machine works in this folder meanwhile: two would write the same files."""
         fd = self._locked(time.monotonic() + max(wait, 10))
         try:
+            self._sweep()
             yield
         finally:
             os.close(fd)
@@ -76,6 +77,13 @@ class Home:
                     raise Trouble(f"another `rls sync` of this circle goes on ({holder(self.folder)}); --wait SECONDS waits for it.", HELD) from None
             os.close(fd)
             time.sleep(0.05)
+
+    def _sweep(self) -> None:
+        """What a stop has left half written goes: nobody else writes here now."""
+        for folder in self.folder, self.path("texts"):
+            for x in os.listdir(folder) if os.path.isdir(folder) else []:
+                if x.startswith(".new-"):
+                    os.unlink(os.path.join(folder, x))
 
     # -- the first look: where it is
     def tell_place(self) -> None:

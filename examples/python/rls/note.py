@@ -227,10 +227,9 @@ class Note:
     def settle(self) -> None:
         """After a round that was stopped, before an editor opens the replica: whether the file's changes went in can be told now, and not after
         the editor has made operations."""
-        if self.state["pending"]:
-            with Session(self.folder) as session:
-                self._go_on(session)
-                self._store(None)
+        with Session(self.folder) as session:
+            self._go_on(session)
+            self._store(None)
 
 
 def older_base(versions: List[str], new: str) -> Optional[str]:

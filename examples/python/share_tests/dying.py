@@ -2,7 +2,8 @@
 
 A step is a change of a name, a sync, a program that is started, or a line to a session. HOW is `alone` (the programs that it started see the end of
 their input, and store), `all` (they are stopped, too) or `half` (so are they, and what was being written is cut in half). The status is 9 if it was
-stopped, and otherwise that of the command. The environment's BETWEEN is what somebody saves just before the first file is replaced."""
+stopped, and otherwise that of the command. The environment's BETWEEN is what somebody saves just before the first file is replaced; then there is
+a file `saved` beside RLS_HOME."""
 import os
 import signal
 import subprocess
@@ -48,6 +49,7 @@ def save_between(text: str) -> None:
             with open(path + ".editor", "w", encoding="utf-8") as f:
                 f.write(text)
             real(path + ".editor", path)
+            open(os.path.join(os.environ["RLS_HOME"], "..", "saved"), "w", encoding="utf-8").close()
         return put(path, data, expected)
     note.put = call
 

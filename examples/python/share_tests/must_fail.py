@@ -35,7 +35,7 @@ RULES = [
     ("a replica is that of the number", "note", "        self._look_at(session.head())\n", "", "other_number"),
     ("what goes in is noted first", "note", "        if pending and session", "        if False and session", "dies_at_each_step"),
     ("the note has how many edits go in", "note", ">= pending[1]", ">= pending[1] - 1", "stopped_before_a_client"),
-    ("where an editor opens, what was stopped is settled", "__main__", "                Note(circle, text, None if path == \"-\" else path, say).settle()\n", "                pass\n", "stopped_before_an_editor"),
+    ("where an editor opens, what was stopped is settled", "__main__", "                note.settle()\n", "                pass\n", "stopped_before_an_editor"),
     ("an older state is looked for", "note", "    if len(versions) < 2 or not any", "    if True or not any", "stale_save"),
     ("the same save has to be saved again", "note", "if any(x == mark and was != at for", "if any(x == mark for", "same_file_again"),
     ("an emptied file isn't taken", "note", "if len(new) * 2 < len(last)", "if False and len(new) * 2 < len(last)", "stale_save same_file_again"),

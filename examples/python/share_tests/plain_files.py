@@ -205,6 +205,8 @@ def test_dies_at_each_step() -> None:
         wanted = ["ADA", "BEN"] + ["LATER"] * (there is not None) + ["four", "one", "three", "two"]
         assert ada.read() == ben.read() and sorted(ada.read().split()) == wanted, (how, step, there, ben.read())
         assert os.listdir(ben.folder) == ["a.md"], os.listdir(ben.folder)
+        home = ben.circle().home
+        assert not [x for x in os.listdir(home.folder) + os.listdir(home.path("texts")) if x.startswith(".new-")]
 
 
 def test_dies_with_a_save_in_between() -> None:
@@ -215,13 +217,9 @@ def test_dies_with_a_save_in_between() -> None:
     ben.write("one two BEN three four\n")
     for step, how, died in Moment(ada, ben).at_each_step(5):
         died(ben.dies(step, how, "sync", BETWEEN="one two BEN AGAIN three four\n"))
-        saved = [x for x in os.listdir(ben.folder) if x.endswith(".editor")]
-        for x in saved:
-            os.unlink(os.path.join(ben.folder, x))
-        has_again = any("AGAIN" in ben.read(x) for x in os.listdir(ben.folder))
         all_sync([ben, ada, ben, ada])
-        wanted = ["ADA"] + ["AGAIN"] * ("AGAIN" in ada.read()) + ["BEN", "four", "one", "three", "two"]
-        assert has_again <= ("AGAIN" in ada.read()), (how, step)
+        has_saved = os.path.exists(os.path.join(ben.home, "..", "saved"))
+        wanted = ["ADA"] + ["AGAIN"] * has_saved + ["BEN", "four", "one", "three", "two"]
         assert ada.read() == ben.read() and sorted(ada.read().split()) == wanted, (how, step, ben.read())
         assert os.listdir(ben.folder) == ["a.md"], os.listdir(ben.folder)
 
