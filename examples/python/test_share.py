@@ -9,7 +9,7 @@ import traceback
 
 from share_tests import copies, folders, numbers, people, plain_files
 
-LONG = {"giver_dies", "newcomer_dies", "part_goes_on", "killed", "dies_at_each_step", "dies_with_a_save_in_between", "stopped_while_a_text_is_added", "mark_comes_first", "thousand_notes", "hostile_carrier"}
+LONG = {"giver_dies", "share_is_stopped", "newcomer_dies", "part_goes_on", "killed", "dies_at_each_step", "dies_with_a_save_in_between", "stopped_while_a_text_is_added", "mark_comes_first", "thousand_notes", "hostile_carrier"}
 
 
 def main(names: "list[str]") -> int:

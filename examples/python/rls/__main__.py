@@ -71,6 +71,9 @@ def share(words: argparse.Namespace) -> int:
         refuse_within(path, shared)
         if not os.path.exists(path):
             raise Trouble(f"there is no {path}.", 1)
+    begun = [x for x in own_circles() if os.path.realpath(x.shared) == os.path.realpath(shared)]
+    if begun and os.path.isdir(shared):
+        begun[0].repair()                               # perhaps this was stopped before
     if os.path.isdir(shared) and any(x.endswith(".circle") for x in os.listdir(shared)):
         circle = Circle.of(shared)
         print(f"member {circle.me} of {shared}")

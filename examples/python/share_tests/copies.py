@@ -7,7 +7,7 @@ from typing import Tuple
 
 from rls.giver import Giver
 
-from .people import Person, all_sync, joins, room, spares, started
+from .people import Moment, Person, all_sync, joins, room, spares, started
 
 
 def only_home(p: Person) -> str:
@@ -207,3 +207,15 @@ def test_no_part() -> None:
     cleo.home = os.path.join(ada.shared, "home")
     assert cleo.rls("join", ada.shared) == 71 and "is in the shared folder" in cleo.said, cleo.said
     assert cleo.rls("share", ada.shared) == 71, cleo.said
+
+
+def test_share_is_stopped() -> None:
+    """`rls share` of two notes is stopped at each step, and then repeated: there is one circle, and each note in it once."""
+    ada = Person(room("share-stopped"), "Ada")
+    ada.write("one\n"), ada.write("two\n", "b.md")
+    for step, how, died in Moment(ada).at_each_step(5):
+        died(ada.dies(step, how, "share", ada.shared, "a.md", "b.md"))
+        assert ada.rls("share", ada.shared, "a.md", "b.md", "--wait", "20") == 0, ada.said
+        all_sync([ada])
+        assert len([x for x in os.listdir(ada.shared) if x.endswith(".circle")]) == 1
+        assert sorted(x.name for x in ada.circle().texts()) == ["a.md", "b.md"] and sorted(os.listdir(ada.folder)) == ["a.md", "b.md"]
