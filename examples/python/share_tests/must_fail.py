@@ -59,7 +59,7 @@ RULES = [
 
 def fails(package: str, tests: str) -> str:
     """Which of these tests fail; the empty string if none does."""
-    env = {**os.environ, "EACH": "2", "PYTHONDONTWRITEBYTECODE": "1"}
+    env = {**os.environ, "EACH": "1", "PYTHONDONTWRITEBYTECODE": "1"}
     p = subprocess.run([sys.executable, os.path.join(package, "test_share.py"), *tests.split()], env=env, capture_output=True, text=True)
     return " ".join(x.split()[1] for x in p.stdout.splitlines() if x.startswith("FAILED")) or ("" if p.returncode == 0 else "all")
 
