@@ -84,10 +84,23 @@ look_at_stale() {
   local LC_ALL=C one two number group members whose me stale known sender
   read -r stale known sender <replica.stale && [[ $known =~ ^[0-9]{1,10}$ ]] || return 0
   read_own && parse_head && [ "$stale" = "$group-$members-$me" ] && count_at "$me" && [ "$known" -gt "$number" ] || return 0
-  say "the folder remembers (replica.stale) that a message was refused here. If no other copy of this folder was ever used, member $sender has" \
-    'written what is not so: then delete replica.stale, and take no message from that member.'
+  if [ -n "${RLS_FORCE:-}" ]; then
+    doubt "$stale" "$sender"
+    return
+  fi
+  say "the folder remembers (replica.stale) that a message was refused here. If no other copy of this folder was ever used, somebody has written in" \
+    "the name of member $sender what is not so. Then say so once, by RLS_FORCE=1 with this command: from then on no message in that name keeps you" \
+    'from editing. Take no message from that member.'
   refuse_stale "$known" "$number" "$me" "$sender" 'Nothing was done.'
 }
+
+# A message can be forged, and so can what it counts of this member's operations. Whoever runs a command by RLS_FORCE=1 although it was refused for
+# that says that it was: the folder notes the member in whose name it was written, and what such a message counts is noted no more. Each of them is
+# refused all the same.
+doubt() {
+  { echo "$1 $2" >>replica.doubted && rm -f replica.stale; } 2>/dev/null
+}
+is_doubted() { [ -s replica.doubted ] && grep -qx -- "$1 $2" replica.doubted; }
 
 # --- send
 

@@ -71,6 +71,7 @@ edit_text() {
     say "$1 is no text in UTF-8. Nothing was done."
     exit 4
   fi
+  lock_late edit
   perform text >"$room/text" || exit
   write_script "$room/text" "$room/new"
   look_at_taken "$1"
@@ -240,7 +241,11 @@ restart() {
   status=$?
   # It gets its name when it is whole.
   if [ "$status" = 0 ]; then mv -T -- "$begun" "$folder" || status=7; fi
-  if [ "$status" = 0 ]; then echo "restarted $1 $2 $3 in $folder"; else say 'no new replica was begun, and nothing else was changed.'; fi
+  if [ "$status" != 0 ]; then
+    say 'no new replica was begun, and nothing else was changed.'
+  elif sync_name_of "$folder"; then
+    echo "restarted $1 $2 $3 in $folder"
+  fi
   exit "$status"
 }
 

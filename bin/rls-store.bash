@@ -39,12 +39,26 @@ lock() {
     'RLS_LOCKED=1 says that you see to it.'
 }
 
-# The program replaces `replica.rls` by a new file. Others are to have the permissions of the old one, and a link would go.
+# Takes the lock once the input is there, so that one that is long in coming keeps nobody out. Another command may have noted something since.
+lock_late() {
+  lock
+  [ ! -s replica.stale ] || { . "$top/bin/rls-heads.bash" && look_at_stale "$1"; }
+}
+
+# The group that a file gets which is made here.
+group_here() { if [ -g . ]; then stat -c %g .; else id -g; fi; }
+
+# The program replaces `replica.rls` by a new file, of the user who runs it. Others are to have the permissions of the old one, and a link would go.
 look_at_file() {
-  local mode
+  local mode owner group
   [ ! -L replica.rls ] || refuse "replica.rls is a symbolic link. The command would put a file in its place, and what the link names would stay old." \
     'Go to the folder of that file; or move it here.'
-  if mode=$(stat -c %a replica.rls 2>/dev/null); then umask "$(printf %o $((~8#$mode & 8#066)))"; fi
+  read -r mode owner group < <(stat -c '%a %u %g' replica.rls 2>/dev/null) || return 0
+  if [ "$owner" != "$EUID" ] || { [ $((8#$mode & 8#060)) != 0 ] && [ "$group" != "$(group_here)" ]; }; then
+    refuse "replica.rls belongs to another user or to another group, and the command would put a file in its place that doesn't: they might not read or write it any more." \
+      'Who owns it can run the command, in the group of the file. The files replica.0, replica.1 and replica.gate are written as they are, and keep both.'
+  fi
+  umask "$(printf %o $((~8#$mode & 8#066)))"
 }
 
 # Whether the files of the replica may be written, or there is none.
@@ -65,7 +79,11 @@ look_at_session() {
 }
 
 look_first() {
-  lock
+  case $1 in
+    edit | take) ;;
+    leave) [ -n "${RLS_FORCE:-}" ] || ask 'after this the replica in this folder can never edit again.'; lock ;;
+    *) lock ;;
+  esac
   case $1 in restart) ;; *) if [ -e replica.rls ] && [ -z "${RLS_FORCE:-}" ]; then look_at_file; fi ;; esac
   if [ "$1" = session ]; then look_at_session; fi
 }
@@ -78,8 +96,17 @@ look_before() {
       ;;
     edit) [ ! -t 0 ] || say 'reading a script from the terminal, one edit a line; Ctrl-D at the beginning of a line ends it.' ;;
     take) [ ! -t 0 ] || refuse 'a message is taken from a file or a program: rls take < MESSAGE' ;;
-    leave) ask 'after this the replica in this folder can never edit again.' ;;
   esac
+}
+
+# The name of a folder is in the folder above it, and is kept once that is synced. Where that may not be read there is no way to sync it.
+sync_name_of() {
+  local above=$1/..
+  [ -r "$above" ] || return 0
+  sync -- "$above" && return
+  say "the disk has not taken the name of this folder: a power failure now might take it away. See whether it is full, and run \`sync\`."
+  status=7
+  return 7
 }
 
 # --- The input
@@ -99,7 +126,6 @@ hold_input() {
 hold_script() {
   local LC_ALL=C text
   if ! [ -p /dev/stdin ]; then
-    [ -t 0 ] && return 0
     hold_input || return
     if [ -f /dev/stdin ] && ! IFS= read -r -d '' -n 1024 text </dev/stdin; then held=$text; fi
   elif IFS= read -r -d '' -n 1024 text; then
@@ -140,6 +166,7 @@ advise() {
 
 edit() {
   hold_script || { say 'the script could not be kept in a file for a moment.'; exit 8; }
+  lock_late edit
   perform edit
   case $status in
     0 | 5)

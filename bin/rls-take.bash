@@ -1,7 +1,7 @@
 # `rls take`: bin/rls reads this for it, after rls-store.bash and rls-heads.bash.
 # shellcheck shell=bash
-# bin/rls sets `program`, `status`, `say`, `refuse` and `tell`; rls-heads.bash sets `read_own`, `read_bytes`, `count_at` and `refuse_stale`; rls-store.bash sets
-# `hold_input`.
+# bin/rls sets `program`, `status`, `say`, `refuse` and `tell`; rls-heads.bash sets `read_own`, `read_bytes`, `count_at`, `is_doubted` and `refuse_stale`;
+# rls-store.bash sets `hold_input` and `lock_late`.
 # shellcheck disable=SC2154
 
 # Refuses a message whose sender has more operations of this member than this member has made, and notes it. Whether the message is one of
@@ -23,7 +23,7 @@ guard() {
   fi
   [ "$number" -gt "$made" ] || return 0
   parse_head
-  { echo "$group-$members-$me $number $whose" >replica.stale; } 2>/dev/null
+  is_doubted "$group-$members-$me" "$whose" || { echo "$group-$members-$me $number $whose" >replica.stale; } 2>/dev/null
   refuse_stale "$number" "$made" "$me" "$whose" 'Nothing was taken.'
 }
 
@@ -54,10 +54,9 @@ tell_missing() {
 take() {
   local all report='' errors
   local -a theirs=()
-  if [ -z "${RLS_FORCE:-}" ]; then
-    hold_input || { say 'the message could not be kept in a file for a moment.'; exit 8; }
-    guard
-  fi
+  hold_input || { say 'the message could not be kept in a file for a moment.'; exit 8; }
+  lock_late take
+  [ -n "${RLS_FORCE:-}" ] || guard
   all=$(exec "$program" take 2>&1)
   status=$? errors=$all
   if [ "${all:0:8}" = 'applied ' ]; then

@@ -16,7 +16,7 @@ for command in edit 'send 1' session leave; do
   expect "the folder remembers it: $command: why" yes "$(says 'knows 2 operations of member 0, but this replica of member 0 has made 1')"
   expect "the folder remembers it: $command: what to do" yes "$(says 'begin in a new folder with a number that nobody has used')"
 done
-expect 'the folder remembers it: and if it is not so' yes "$(says 'delete replica.stale')"
+expect 'the folder remembers it: and if it is not so' yes "$(says 'say so once, by RLS_FORCE=1 with this command')"
 echo other >words
 expect 'the folder remembers it: a text of a file' 71 "$(ada status_of "$rls" edit --text ../words)"
 cp -r ada forced
