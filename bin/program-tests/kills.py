@@ -1,4 +1,4 @@
-"""Kills at random moments, and two programs at once behind the launcher."""
+"""Kills at random moments, two programs at once behind the launcher, and a `new` that was stopped and is begun again there."""
 import os
 import random
 import shutil
@@ -7,7 +7,8 @@ import subprocess
 import time
 from commands import HELLO_1, edits, took
 from forms import FRESH, HELLO, HELLO_MESSAGE, file4, fresh, run, text, typed
-from room import KINDS, kept
+from room import KINDS, files_of, kept
+from stops import begin
 
 LETTERS = b"abcdefgh" * 250000
 LARGE = file4(7, 1, 0, (1,), [], [[(1, 0, 2000000)]], [run(typed(0, 1, 0), 2000000) + text(LETTERS)])
@@ -101,4 +102,32 @@ def launched(room):
         process.stderr.close()
 
 
-TESTS = [("kills", at_random), ("launcher", launched)]
+def begun(room):
+    """A `new` that a power failure stopped after any of its calls: the launcher goes on with it, or refuses it and changes nothing."""
+    launcher = os.path.join(os.path.dirname(os.path.dirname(os.path.abspath(__file__))), "rls")
+    environment = dict(room.plain, RLS_PROGRAM=room.program, RLS_LOCKED="1")
+    folder, disk = begin(room, "slots", None, {})
+    room.run(folder, ["new", "7", "0", "2"], calls={"RECORD": room.record_path})
+    images = {}
+    for line in [["close", "0"]] + room.record():
+        if disk.play(line) or not images:
+            images.update({tuple(sorted(image.items())): image for image in disk.images()})
+    statuses = []
+    # (each third of some hundred, since the launcher takes its time)
+    for image in list(images.values())[::3]:
+        folder = room.replica("slots", None, "begun", image)
+        done = subprocess.run([launcher, "new", "7", "0", "2"], capture_output=True, cwd=folder, env=environment, check=False)
+        statuses.append(done.returncode)
+        if done.returncode == 71:
+            right = files_of(folder) == image and not image.get("replica.gate") and b"rm replica.0 replica.1" in done.stderr
+            for name in image:
+                os.unlink(os.path.join(folder, name))
+            done = subprocess.run([launcher, "new", "7", "0", "2"], capture_output=True, cwd=folder, env=environment, check=False)
+            right = right and done.returncode == 0
+        else:
+            right = done.returncode == 0 or (done.returncode == 2 and bool(image.get("replica.gate")))
+        room.check("new over what a stop left", right and room.text(folder) == (0, b"", b""), {name: data[:100] for name, data in image.items()}, done)
+    room.check("it goes on, is refused, or was done", {0, 2, 71} == set(statuses), set(statuses), len(statuses))
+
+
+TESTS = [("kills", at_random), ("launcher", launched), ("new-again", begun)]

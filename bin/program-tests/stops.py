@@ -31,12 +31,24 @@ class Inode:
     def variants(self):
         """All that a stop may leave."""
         found = {self.synced}
-        for chosen in itertools.product(*(torn(what) for what in self.pending)):
+        for chosen in chosen_of(self.pending):
             content = self.synced
             for what in chosen:
                 content = apply(content, what)
             found.add(content)
         return found
+
+
+def chosen_of(pending):
+    """What may be there of changes that aren't synced: of each any part, whatever of the others. A program that doesn't sync has many, and so many
+    states that a few tell it: all changes but one are there then, or none."""
+    if len(pending) <= 6:
+        yield from itertools.product(*(torn(what) for what in pending))
+        return
+    for others in (pending, [None] * len(pending)):
+        for number, what in enumerate(pending):
+            for part in torn(what):
+                yield [*others[:number], part, *others[number + 1:]]
 
 
 def apply(content, what):
@@ -70,6 +82,8 @@ class Disk:
     def play(self, line):
         """One call. Answers whether it may change what a stop leaves."""
         call = line[0]
+        if call == "reply":
+            return False
         if call == "open":
             number, is_new, is_cut, name = int(line[1]), line[2] == "1", line[3] == "1", line[4]
             if name == ".":
