@@ -5,6 +5,7 @@
 (require 'rls-files)
 (require 'rls-session)
 (require 'rls-changes)
+(require 'rls-tokens)
 (declare-function rls--stored "rls")
 (defvar rls-program)
 (defvar rls--folder)
@@ -84,6 +85,18 @@ read as a message is told, and stops no other member's."
           (setq rls--changes (+ rls--changes (rls--number reply "applied")))
           (or (nth 2 told) t))))))
 
+(defun rls--take-all ()
+  "Takes what came.
+Answers whether there was anything, and the list of what it changed."
+  (let (taken changes)
+    (when (rls--may-write-p)
+      (dotimes (from rls--members)
+        (let ((told (rls--take-from from)))
+          (when told
+            (setq taken t)
+            (when (consp told) (setq changes (append changes told)))))))
+    (cons taken changes)))
+
 (defun rls--make-room (size)
   "Has the session read SIZE bytes more before it stores.
 Answers whether it can."
@@ -119,21 +132,44 @@ one that is there and answers, and gets the rest."
   (setq rls--away (not (file-directory-p rls--shared)))
   (not rls--away))
 
+(defun rls--written-p (to message)
+  "Whether MESSAGE to a member is there already.
+If what is there has this member's number and more of its operations than were
+made here, nothing is written."
+  (let* ((path (rls--path rls--me to)) (there (or (ignore-errors (rls--read path rls--most-input)) "")) (at (+ 21 (* 4 rls--me))))
+    (cond ((equal there message)
+           (rls--note (format "to %d" to) nil)
+           (setf (alist-get to rls--sent) message
+                 (alist-get to rls--marks) (rls--mark path)))
+          ((and (>= (length there) (+ at 4)) (equal (substring there 5 21) (substring rls--head 5 21))
+                (> (rls--u32 there at) (rls--u32 message at)))
+           (rls--stop path "it has more operations of this number than this replica has made")
+           nil))))
+
 (defun rls--write-message (to message)
-  "Writes MESSAGE to a member, if it is new."
-  (unless (or (equal message (alist-get to rls--sent)) (rls--enough-p to message))
-    (setf (alist-get to rls--last) message)
-    (when (rls--shared-p)
-      (condition-case fault
-          (progn (rls--write (rls--path rls--me to) message)
-                 (rls--note (format "to %d" to) nil)
-                 (setf (alist-get to rls--sent) message
-                       (alist-get to rls--marks) (rls--mark (rls--path rls--me to))))
-        ;; The name of the file is one that nobody knows.
-        (file-error (rls--note (format "to %d" to)
-                               (if (file-writable-p rls--shared) (or (nth 2 fault) (error-message-string fault))
-                                 (format "no permission to write there (%s)"
-                                         (file-attribute-modes (file-attributes rls--shared))))))))))
+  "Writes MESSAGE to a member."
+  (rls--write (rls--path rls--me to) message)
+  (rls--note (format "to %d" to) nil)
+  (setf (alist-get to rls--sent) message
+        (alist-get to rls--marks) (rls--mark (rls--path rls--me to))))
+
+(defun rls--write-messages (messages)
+  "Writes MESSAGES to members, as far as they are new.
+It says before that this replica writes."
+  (let ((due (seq-remove (lambda (x) (or (equal (cdr x) (alist-get (car x) rls--sent)) (rls--enough-p (car x) (cdr x)))) messages)) is-shown)
+    (dolist (x due) (setf (alist-get (car x) rls--last) (cdr x)))
+    (when (and due (rls--shared-p) (rls--may-write-p))
+      (setq due (seq-remove (lambda (x) (rls--written-p (car x) (cdr x))) due))
+      (dolist (x (unless rls--twice due))
+        (condition-case fault
+            (progn (unless is-shown (rls--show-token))
+                   (setq is-shown t)
+                   (rls--write-message (car x) (cdr x)))
+          ;; The name of the file is one that nobody knows.
+          (file-error (rls--note (format "to %d" (car x))
+                                 (if (file-writable-p rls--shared) (or (nth 2 fault) (error-message-string fault))
+                                   (format "no permission to write there (%s)"
+                                           (file-attribute-modes (file-attributes rls--shared)))))))))))
 
 (defun rls--there-p (to message)
   "Whether the MESSAGE to a member is there as it was written.
@@ -147,15 +183,15 @@ The file is read only if it is another one than when this was asked last."
 (defun rls--write-again ()
   "Writes again what could not be written, and what isn't there any more.
 The folder may have an older state.  It is looked at when the folder is back,
-and each tenth time that this is called."
-  (let ((was-away rls--away))
+or this replica may write again, and each tenth time that this is called."
+  (let ((was-stopped (or rls--away rls--stopped)))
     (setq rls--looked (1+ rls--looked))
-    (when (and (rls--shared-p) (or was-away (zerop (% rls--looked 10))))
-      (dolist (x (copy-sequence rls--last))
-        (unless (rls--there-p (car x) (cdr x))
-          (setf (alist-get (car x) rls--sent nil t) nil)
-          (rls--write-message (car x) (cdr x))))
-      (when was-away (setq rls--shown nil rls--place nil)))))
+    (when (and (rls--shared-p) (or was-stopped (zerop (% rls--looked 10))) (rls--may-write-p))
+      (setq rls--stopped nil)
+      (let ((lost (seq-remove (lambda (x) (rls--there-p (car x) (cdr x))) (copy-sequence rls--last))))
+        (dolist (x lost) (setf (alist-get (car x) rls--sent nil t) nil))
+        (rls--write-messages lost))
+      (when was-stopped (setq rls--shown nil rls--place nil)))))
 
 ;;;; Cursors
 
@@ -170,7 +206,7 @@ and each tenth time that this is called."
   "Writes for others where point is, as REPLY says it."
   (let* ((place (and (string-match "\\`anchor \\([^ ]+\\)\\'" reply) (match-string 1 reply)))
          (line (string-trim-right (concat place " " (replace-regexp-in-string "[[:cntrl:]]" "" rls-name)))))
-    (when (and place (not (equal line rls--place)))
+    (when (and place (not (equal line rls--place)) (rls--may-write-p))
       (setq rls--place line)
       (ignore-errors (rls--write (rls--cursor-path rls--me) (concat (encode-coding-string line 'utf-8-unix) "\n"))))))
 

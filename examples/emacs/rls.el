@@ -134,14 +134,10 @@ were stored; with the first one the last edit that isn't stored yet."
 It waits until the session has answered what was asked before, since its
 changes are of the text as it is then."
   (rls--drain)
-  (let* ((window (get-buffer-window)) (taken nil) (changes nil)
-         (at (1- (if window (window-point window) (point)))))
-    (when (= rls--version 1) (rls--number (rls--ask (format "k %d" at)) "cursor"))
-    (dotimes (from rls--members)
-      (let ((told (rls--take-from from)))
-        (when told
-          (setq taken t)
-          (when (consp told) (setq changes (append changes told))))))
+  (let* ((window (get-buffer-window)) (at (1- (if window (window-point window) (point))))
+         (found (progn (when (= rls--version 1) (rls--number (rls--ask (format "k %d" at)) "cursor"))
+                       (rls--take-all)))
+         (taken (car found)) (changes (cdr found)))
     (cond ((and (>= rls--version 2) (not rls--behind)) (when changes (rls--apply changes)))
           ((or taken rls--behind)
            (setq rls--behind nil)
@@ -217,7 +213,7 @@ for, then it is stored, and what was answered is written after that."
                              (rls--number reply "message")
                              (push (cons to message) messages)))))
     (let ((write (lambda ()
-                   (dolist (x (nreverse messages)) (rls--write-message (car x) (cdr x)))
+                   (rls--write-messages (nreverse messages))
                    (unless rls--unsaved (set-buffer-modified-p nil)))))
       (if (= rls--version 1) (progn (rls--drain) (funcall write))
         (rls--send-request "w" nil (lambda (reply &rest _)
@@ -300,9 +296,10 @@ process that is dead; so it waits only if it was asked to end just now."
 
 (defun rls--trouble ()
   "What is wrong with the replica, if something is.
-Since a fault nothing is stored."
+Since a fault nothing is stored; while its number is used twice nothing is sent."
   (or rls--fault
-      (let ((waits (rls--waits))) (when (>= waits 3) (format "NOT stored: the program has not answered for %d s" waits)))))
+      (let ((waits (rls--waits))) (when (>= waits 3) (format "NOT stored: the program has not answered for %d s" waits)))
+      (cadr rls--twice)))
 
 (defun rls--status ()
   "What the mode line says of the replica."
@@ -340,7 +337,7 @@ Emacs keeps the hook, and calls it only once somebody has looked at it."
                              rls--typed rls--told rls--behind rls--process rls--version rls--telling rls--given rls--waiting rls--failed
                              rls--shared rls--head rls--group rls--members rls--me rls--seen rls--taken rls--sent rls--last rls--marks
                              rls--looked rls--away rls--changes rls--problems rls--shown rls--place rls--places rls--lookup-due
-                             rls--overlays))
+                             rls--overlays rls--twice rls--stopped))
   (put variable 'permanent-local t))
 
 (define-minor-mode rls-mode
@@ -377,7 +374,7 @@ since what isn't in the buffer may be of others."
     (unwind-protect
         (progn
           (rls--begin rls-program rls--folder)
-          (dotimes (from rls--members) (rls--take-from from))
+          (rls--take-all)
           (let* ((stored (rls--text)) (shown (save-restriction (widen) (buffer-substring-no-properties (point-min) (point-max))))
                  (joined (rls--joined stored shown)) (rls--silent t))
             (setq fault nil)

@@ -140,7 +140,7 @@ play_typing() {
 play_all() {
   local name command=$1 odd=$2
   local -a names=("${@:3}")
-  [ ${#names[@]} -gt 0 ] || names=(random typing undo beside elsewhere cursors places heap mixed away copy empty again kill waiting killed second hang fault apart large odd)
+  [ ${#names[@]} -gt 0 ] || names=(random typing undo beside elsewhere cursors places heap mixed away copy empty again kill waiting killed second hang fault apart twice large odd)
   for name in "${names[@]}"; do
     case $name in
       undo | beside | elsewhere | cursors | places | heap | copy) if is_second; then "play_$name" "$command"; else echo "skipped $name: it needs the second version of the session"; fi ;;

@@ -110,6 +110,80 @@ play_fault() {
   same_texts
 }
 
+# Nobody says that the number is used twice.
+says_nothing() { if screen | grep -qF 'used twice'; then echo "FAILED  $1"; screen; exit 1; fi; echo "ok      $1"; }
+
+# What is typed in the editor from now on is stored in the folder $1 as the text $2, and no message of member 0 changes.
+sends_nothing() {
+  local before
+  before=$(cat "$room/shared"/7-0-* | cksum)
+  type_at_end "$3"
+  twin_text() { (cd "$room/$1" && "$RLS" text); }
+  wait_for "what is typed then is stored in $1" "$2" twin_text "$1"
+  sleep 1
+  [ "$before" = "$(cat "$room/shared"/7-0-* | cksum)" ] || { echo 'FAILED  messages of a number that is used twice'; exit 1; }
+  echo 'ok      and not sent'
+}
+
+# A number that two editors use. Each has a shared folder of its own until these become one: then both say so, and neither writes over what is there.
+# Once the file that shows it is gone, the one that goes on sends what was typed meanwhile. Then a copy of a replica, which says so too.
+# $1 begins the editor.
+play_twice() {
+  local other
+  begin_with "$1" Start 'i 0 Start'
+  type_at_end ' one'
+  ben_has 'what member 0 typed' 'Start one'
+  mkdir -p "$room/twin" "$room/apart"
+  (cd "$room/twin" && "$RLS" new 7 0 2 >/dev/null)
+  other=${1//$room\/ada/$room\/twin}
+  tmux -L "$socket" new-session -d -s other -x 100 -y 24 "${other//$room\/shared/$room\/apart}"
+  pane=other shows 'another one with the same number' 'member 0 of 2'
+  pane=other type_at_end Twin
+  has_written() { (cd "$room/$1" && [ -f 7-0-1.rlsm ] && find . -name '7-0-*.member' | wc -l); }
+  wait_for 'a file with its token, in its own shared folder' $'1\n' has_written apart
+  wait_for 'and one of the first' $'1\n' has_written shared
+  says_nothing 'neither says anything as yet'
+  pane=other says_nothing 'in the other pane'
+  cp "$room/apart"/*.member "$room/shared" && mv "$room/apart" "$room/gone" && ln -s shared "$room/apart"
+  shows 'that a number is used twice' 'number 0 is used twice'
+  pane=other shows 'the same in the other editor' 'number 0 is used twice'
+  sends_nothing ada 'Start one two' ' two'
+  pane=other sends_nothing twin 'Twin two' ' two'
+  pane=other leave_editor
+  rm "$room/shared/7-0-$(head -c 16 "$room/twin/replica.token").member"
+  ben_has 'what was typed, once the file that shows it is gone' 'Start one two'
+  ben_edits 'i 13 , three'
+  shows 'what others wrote' ', three'
+  says_nothing 'it is not said any more'
+  leave_editor
+  free() { (cd "$room/$1" && flock -n . true && echo yes); }
+  wait_for 'the folder is free' $'yes\n' free ada
+  wait_for 'that of the other one too' $'yes\n' free twin
+  leave_tmux
+  rm -r "$room/twin" && cp -r "$room/ada" "$room/twin"
+  begin "$1"
+  shows 'the replica once more' ', three'
+  type_at_end ' four'
+  ben_has 'what is typed into it' 'Start one two, three four'
+  says_nothing 'it says nothing'
+  tmux -L "$socket" new-session -d -s other -x 100 -y 24 "$other"
+  pane=other shows 'that a copy of it was opened' 'number 0 is used twice'
+  pane=other sends_nothing twin 'Start one two, three of a copy' ' of a copy'
+  pane=other leave_editor
+  type_at_end ' five'
+  ben_has 'what is typed then into the one that is no copy' 'Start one two, three four five'
+  says_nothing 'it still says nothing'
+  # By commands a copy shows no token.
+  rm -r "$room/twin" && cp -r "$room/ada" "$room/twin"
+  (cd "$room/twin" && printf 'i 0 %s\n' {1..40} | "$RLS" edit >/dev/null && "$RLS" send 1 >"$room/shared/.new" && mv "$room/shared/.new" "$room/shared/7-0-1.rlsm")
+  shows 'that a copy wrote at the name of its message' 'as 7-0-1.rlsm shows'
+  sends_nothing ada 'Start one two, three four five six' ' six'
+  rm "$room/shared/7-0-1.rlsm"
+  ben_has 'what was typed, once that message is gone' 'Start one two, three four five six'
+  leave_editor
+  same_texts
+}
+
 # The folders: that of the replica isn't taken for the shared one; the shared one is made with the permissions that the umask leaves; and one that
 # somebody else may not write into is told. $1 begins the editor.
 play_apart() {

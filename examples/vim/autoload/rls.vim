@@ -122,11 +122,14 @@ function rls#later(milliseconds, buf, Function) abort
   return timer_start(a:milliseconds, {_ -> s:busy ? rls#later(50, a:buf, a:Function) : rls#try(a:Function, a:buf)})
 endfunction
 
-" What is wrong with a buffer's replica: since a fault nothing is stored.
+" What is wrong with a buffer's replica: since a fault nothing is stored, and while its number is used twice nothing is sent.
 function rls#fault(buf) abort
   let r = get(s:open, a:buf, {})
   let waits = empty(r) ? 0 : rls#session#waits(r)
-  return get(r, 'fault', '') !=# '' || waits < 3 ? get(r, 'fault', '') : printf('NOT stored: the program has not answered for %d s', waits)
+  if get(r, 'fault', '') !=# '' || waits < 3
+    return get(r, 'fault', '') !=# '' ? r.fault : get(get(r, 'twice', {}), 'line', '')
+  endif
+  return printf('NOT stored: the program has not answered for %d s', waits)
 endfunction
 
 " What else the status line says of it.

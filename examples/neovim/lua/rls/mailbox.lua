@@ -50,6 +50,14 @@ function M:take_from(from, changes)
   return true
 end
 
+-- Takes what came, and adds what it changed to `changes`. Answers whether there was anything.
+function M:take_all(changes)
+  local taken = false
+  if not self:may_write() then return taken end
+  for from = 0, self.members - 1 do taken = self:take_from(from, changes) or taken end
+  return taken
+end
+
 -- Whether nothing ever came from this number and the message that it has already has more than half the bytes of this one. Each of them has
 -- the whole history. Whoever begins with the number takes the one that is there and answers, and gets the rest.
 function M:is_enough(to, message)
@@ -63,34 +71,61 @@ function M:has_shared()
   return not self.is_away
 end
 
--- Writes the message to a member, if it is new.
-function M:write(to, message)
-  if message == self.sent[to] or self:is_enough(to, message) then return end
-  self.last[to] = message
-  if not self:has_shared() then return end
-  local why = files.write(self:path(self.me, to), message)
-  self.problems['to ' .. to] = why
-  if why then return end
-  self.sent[to], self.marks[to] = message, files.mark_of(self:path(self.me, to))
+-- Whether a message is there already. If what is there has this member's number and more of its operations than were made here, nothing is written.
+function M:is_written(to, message)
+  local path = self:path(self.me, to)
+  local there, at = files.read(path, MOST_MESSAGE) or '', 21 + 4 * self.me
+  if there == message then
+    self.sent[to], self.marks[to], self.problems['to ' .. to] = message, files.mark_of(path), nil
+    return true
+  elseif #there >= at + 4 and there:sub(6, 21) == self.head:sub(6, 21) and files.u32(there, at) > files.u32(message, at) then
+    self:stop(path, 'it has more operations of this number than this replica has made')
+  end
+  return false
 end
 
--- Writes again what could not be written, and what isn't there any more since the folder has an older state: when the folder is back, and each
--- tenth time that this is called.
-function M:write_again()
-  local was_away = self.is_away
-  self.looked = self.looked + 1
-  if not self:has_shared() or not (was_away or self.looked % 10 == 0) then return end
-  for to, message in pairs(self.last) do
-    local path = self:path(self.me, to)
-    local mark = files.mark_of(path)
-    if self.sent[to] ~= message or (mark ~= self.marks[to] and files.read(path, MOST_MESSAGE) ~= message) then
-      self.sent[to] = nil
-      self:write(to, message)
-    else
-      self.marks[to] = mark
-    end
+-- Writes messages to members, as far as they are new, and says before that this replica writes.
+function M:write(messages)
+  local due = {}
+  for to, message in pairs(messages) do
+    if message ~= self.sent[to] and not self:is_enough(to, message) then due[to], self.last[to] = message, message end
   end
-  if was_away then self.told_cursor, self.shown = nil, nil end
+  if not next(due) or not self:has_shared() or not self:may_write() then return end
+  for to, message in pairs(due) do
+    if self:is_written(to, message) then due[to] = nil end
+  end
+  if not next(due) or self.twice then return end
+  local fault = self:show_token()
+  for to, message in pairs(due) do
+    local path = self:path(self.me, to)
+    local why = fault or files.write(path, message)
+    self.problems['to ' .. to] = why
+    if not why then self.sent[to], self.marks[to] = message, files.mark_of(path) end
+  end
+end
+
+-- Whether a message is still there as it was written. The file is read only if it is another one than when this was asked last.
+function M:is_there(to, message)
+  local path = self:path(self.me, to)
+  local mark = files.mark_of(path)
+  if self.sent[to] ~= message or (mark ~= self.marks[to] and files.read(path, MOST_MESSAGE) ~= message) then return false end
+  self.marks[to] = mark
+  return true
+end
+
+-- Writes again what could not be written, and what isn't there any more since the folder has an older state: when the folder is back, or this
+-- replica may write again, and each tenth time that this is called.
+function M:write_again()
+  local was_stopped = self.is_away or self.is_stopped
+  self.looked = self.looked + 1
+  if not self:has_shared() or not (was_stopped or self.looked % 10 == 0) or not self:may_write() then return end
+  self.is_stopped = false
+  local lost = {}
+  for to, message in pairs(self.last) do
+    if not self:is_there(to, message) then lost[to], self.sent[to] = message, nil end
+  end
+  self:write(lost)
+  if was_stopped then self.told_cursor, self.shown = nil, nil end
 end
 
 -- Tells others where the cursor is, if it has moved.
@@ -104,7 +139,7 @@ function M:show_cursor()
   self.session:send('a ' .. place, nil, function(reply)
     local word = reply:match('^anchor (%S+)$')
     local line = word and (word .. ' ' .. self.options.name:gsub('%c', '')):gsub(' $', '') .. '\n'
-    if line and line ~= self.told_cursor then
+    if line and line ~= self.told_cursor and self:may_write() then
       self.told_cursor = line
       files.write(self:cursor_path(self.me), line)
     end

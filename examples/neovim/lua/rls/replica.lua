@@ -1,12 +1,12 @@
 -- A replica in a buffer: what is typed goes to the session as it is typed, and what others changed is put in place in the buffer.
 local Session, Lines, Mailbox, Changes = require('rls.session'), require('rls.lines'), require('rls.mailbox'), require('rls.changes')
-local files, compared = require('rls.files'), require('rls.compare')
+local Tokens, files, compared = require('rls.tokens'), require('rls.files'), require('rls.compare')
 local uv, api = vim.loop, vim.api
 local MOST_INPUT = 67108864 -- bytes that a session reads before it stores
 
 local Replica = {}
 Replica.__index = Replica
-for _, part in ipairs({ Mailbox, Changes }) do
+for _, part in ipairs({ Mailbox, Tokens, Changes }) do
   for name, method in pairs(part) do Replica[name] = method end
 end
 
@@ -291,7 +291,7 @@ function Replica:send()
     if to ~= self.me then self.session:send('s ' .. to, nil, function(_, message) messages[to] = message end) end
   end
   local function write()
-    for to, message in pairs(messages) do self:write(to, message) end
+    self:write(messages)
     if not self.unsaved and api.nvim_buf_is_valid(self.buf) then vim.bo[self.buf].modified = false end
   end
   if self.version == 1 then
@@ -343,9 +343,9 @@ function Replica:take(is_asked)
   self.session:drain()
   if self.lines.size ~= api.nvim_buf_line_count(self.buf) then error('rls: the buffer has other lines than it told', 0) end
   local place = self.version == 1 and api.nvim_get_current_buf() == self.buf and api.nvim_win_get_cursor(0)
-  local changes, taken = {}, false
+  local changes = {}
   if place then number(self.session:ask('k ' .. self.lines:place(place[1] - 1, place[2])), 'cursor') end
-  for from = 0, self.members - 1 do taken = self:take_from(from, changes) or taken end
+  local taken = self:take_all(changes)
   if self.version >= 2 and not self.is_behind then
     self:apply(changes)
   elseif taken or self.is_behind then
@@ -404,7 +404,7 @@ function Replica:open_again()
   self:start()
   self.told, self.is_refusal_told, self.is_behind, self.is_boundary, self.is_cut, self.unsaved = nil, nil, false, true, false, false
   self.taken, self.seen = {}, {}
-  for from = 0, self.members - 1 do self:take_from(from, {}) end
+  self:take_all({})
   local stored = vim.split(self:text(), '\n', { plain = true })
   local shown = api.nvim_buf_get_lines(self.buf, 0, -1, true)
   local joined = Replica.joined(stored, shown)
@@ -437,10 +437,10 @@ function Replica:close()
   files.let_go(self.folder)
 end
 
--- What is wrong with the replica: since a fault nothing is stored.
+-- What is wrong with the replica: since a fault nothing is stored, and while its number is used twice nothing is sent.
 function Replica:trouble()
   local waits = self.session:waits()
-  if self.fault or waits < 3 then return self.fault or '' end
+  if self.fault or waits < 3 then return self.fault or (self.twice and self.twice.line) or '' end
   return ('NOT stored: the program has not answered for %d s'):format(waits)
 end
 

@@ -132,9 +132,7 @@ function s:keep(messages, to, reply, bytes, changes) abort
 endfunction
 
 function s:write_all(r, messages) abort
-  for [to, message] in items(a:messages)
-    call rls#mailbox#write(a:r, to, message)
-  endfor
+  call rls#mailbox#write(a:r, a:messages)
   if !a:r.unsaved
     call setbufvar(a:r.buf, '&modified', 0)
   endif
@@ -178,10 +176,8 @@ function s:take(r) abort
     let place = rls#lines#place(a:r.text, line('.')) + strchars(strpart(getline('.'), 0, col('.') - 1))
     call rls#session#number(rls#session#ask(a:r, 'k ' . place)[0], 'cursor')
   endif
-  let [taken, changes] = [0, []]
-  for from in range(a:r.members)
-    let taken += rls#mailbox#take(a:r, from, changes)
-  endfor
+  let changes = []
+  let taken = rls#mailbox#take(a:r, changes)
   if a:r.version >= 2 && !a:r.behind
     call rls#buffer#apply(a:r, changes)
   elseif taken || a:r.behind

@@ -43,7 +43,7 @@ endfunction
 
 " Takes what came from one member, and adds what it changed. Answers whether there was anything. What can't be read as a message is told, and stops
 " no other member's.
-function rls#mailbox#take(r, from, changes) abort
+function s:take_from(r, from, changes) abort
   let path = s:path(a:r, a:from, a:r.me)
   if a:from == a:r.me || !s:is_new(a:r, path)
     return 0
@@ -80,6 +80,15 @@ function rls#mailbox#take(r, from, changes) abort
   return 1
 endfunction
 
+" Takes what came, and adds what it changed. Answers from how many members there was anything.
+function rls#mailbox#take(r, changes) abort
+  let taken = 0
+  for from in rls#tokens#may(a:r) ? range(a:r.members) : []
+    let taken += s:take_from(a:r, from, a:changes)
+  endfor
+  return taken
+endfunction
+
 " Whether nothing ever came from this number and the message that it has already has more than half the bytes of this one. Each of them has the
 " whole history. Whoever begins with the number takes the one that is there and answers, and gets the rest.
 function s:is_enough(r, to, message) abort
@@ -93,22 +102,47 @@ function s:has_shared(r) abort
   return !a:r.is_away
 endfunction
 
-" Writes the message to a member, if it is new.
-function rls#mailbox#write(r, to, message) abort
-  if a:message ==# get(a:r.sent, a:to, 0z) || s:is_enough(a:r, a:to, a:message)
-    return
-  endif
-  let a:r.last[a:to] = a:message
-  if !s:has_shared(a:r)
-    return
-  endif
+" Whether a message is there already. If what is there has this member's number and more of its operations than were made here, nothing is written.
+function s:is_written(r, to, message) abort
+  let path = s:path(a:r, a:r.me, a:to)
   try
-    call rls#files#write(s:path(a:r, a:r.me, a:to), a:message)
+    let there = get(rls#files#read(path, s:most_message), 0, 0z)
+  catch /^rls:\|^Vim(\(return\|let\)):E48\d/
+    return 0
+  endtry
+  let at = 21 + 4 * a:r.me
+  if there ==# a:message
     let a:r.sent[a:to] = a:message
     call s:note(a:r, 'to ' . a:to, '')
-  catch /^rls:\|^Vim(let):E/
-    call s:note(a:r, 'to ' . a:to, v:exception)
-  endtry
+    return 1
+  elseif len(there) >= at + 4 && there[5:20] ==# a:r.head[5:20] && rls#files#u32(there, at) > rls#files#u32(a:message, at)
+    call rls#tokens#stop(a:r, path, 'it has more operations of this number than this replica has made')
+  endif
+  return 0
+endfunction
+
+" Writes messages to members, as far as they are new, and says before that this replica writes.
+function rls#mailbox#write(r, messages) abort
+  let due = filter(copy(a:messages), {to, message -> message !=# get(a:r.sent, to, 0z) && !s:is_enough(a:r, to, message)})
+  call extend(a:r.last, due)
+  if empty(due) || !s:has_shared(a:r) || !rls#tokens#may(a:r)
+    return
+  endif
+  call filter(due, {to, message -> !s:is_written(a:r, to, message)})
+  let is_shown = 0
+  for [to, message] in empty(a:r.twice) ? items(due) : []
+    try
+      if !is_shown
+        call rls#tokens#show(a:r)
+      endif
+      let is_shown = 1
+      call rls#files#write(s:path(a:r, a:r.me, to), message)
+      let a:r.sent[to] = message
+      call s:note(a:r, 'to ' . to, '')
+    catch /^rls:\|^Vim(let):E/
+      call s:note(a:r, 'to ' . to, v:exception)
+    endtry
+  endfor
 endfunction
 
 " Whether a message is still there as it was written. The file is read only if it is another one than when this was asked last.
@@ -128,22 +162,21 @@ function s:is_there(r, to, message) abort
   endtry
 endfunction
 
-" Writes again what could not be written, and what isn't there any more since the folder has an older state: when the folder is back, and each
-" tenth time that this is called.
+" Writes again what could not be written, and what isn't there any more since the folder has an older state: when the folder is back, or this
+" replica may write again, and each tenth time that this is called.
 function rls#mailbox#write_again(r) abort
-  let was_away = a:r.is_away
+  let was_stopped = a:r.is_away || a:r.is_stopped
   let a:r.looked += 1
-  if !s:has_shared(a:r) || !(was_away || a:r.looked % 10 == 0)
+  if !s:has_shared(a:r) || !(was_stopped || a:r.looked % 10 == 0) || !rls#tokens#may(a:r)
     return
   endif
-  for [to, message] in items(a:r.last)
-    if s:is_there(a:r, to, message)
-      continue
-    endif
+  let a:r.is_stopped = 0
+  let lost = filter(copy(a:r.last), {to, message -> !s:is_there(a:r, to, message)})
+  for to in keys(lost)
     let a:r.sent[to] = 0z
-    call rls#mailbox#write(a:r, to, message)
   endfor
-  if was_away
+  call rls#mailbox#write(a:r, lost)
+  if was_stopped
     let [a:r.cursor, a:r.shown] = ['', -1]
   endif
 endfunction
@@ -165,7 +198,7 @@ endfunction
 function s:tell_cursor(r, reply, bytes, changes) abort
   let word = matchstr(a:reply, '^anchor \zs\S\+$')
   let line = word . (g:rls_name ==# '' ? '' : ' ' . substitute(g:rls_name, '[[:cntrl:]]', '', 'g'))
-  if word !=# '' && line !=# a:r.cursor
+  if word !=# '' && line !=# a:r.cursor && rls#tokens#may(a:r)
     let a:r.cursor = line
     try
       call rls#files#write(s:cursor_path(a:r, a:r.me), [line])

@@ -31,7 +31,7 @@ function rls#replica#new(folder, shared) abort
   let r = {'folder': rls#replica#full(a:folder), 'shared': rls#replica#full(a:shared), 'taken': {}, 'sent': {}, 'seen': {}, 'problems': {}, 'failed': '',
         \ 'fault': '', 'is_opening': 1, 'told': [], 'silent': 0, 'edition': 0, 'is_cut': 0, 'boundary': 0, 'steps': 0, 'behind': 0,
         \ 'unsaved': 0, 'since': 0, 'waits_until': 0, 'due': -1, 'changes': g:rls_rename_at, 'is_refusal_told': 0, 'shown': -1,
-        \ 'cursor': '', 'places': {}, 'is_lookup_due': 0, 'last': {}, 'marks': {}, 'looked': 0, 'is_away': 0}
+        \ 'cursor': '', 'places': {}, 'is_lookup_due': 0, 'last': {}, 'marks': {}, 'looked': 0, 'is_away': 0, 'twice': {}, 'is_stopped': 0}
   call rls#replica#look_for(r.folder)
   if &encoding !=# 'utf-8'
     throw 'rls: Vim has to work in UTF-8: put `set encoding=utf-8` into your vimrc'
@@ -71,9 +71,7 @@ function rls#replica#open_again(r) abort
   try
     call rls#session#start(a:r)
     let [a:r.behind, a:r.boundary, a:r.is_cut, a:r.unsaved, a:r.taken, a:r.seen, a:r.told] = [0, 1, 0, 0, {}, {}, []]
-    for from in range(a:r.members)
-      call rls#mailbox#take(a:r, from, [])
-    endfor
+    call rls#mailbox#take(a:r, [])
     let stored = rls#session#lines_of(rls#session#text(a:r))
   catch
     call job_stop(a:r.job)
