@@ -113,6 +113,9 @@ play_fault() {
 # Nobody says that the number is used twice.
 says_nothing() { if screen | grep -qF 'used twice'; then echo "FAILED  $1"; screen; exit 1; fi; echo "ok      $1"; }
 
+# How the name of the file begins that shows the token of the replica in the folder $1. The rest may have no room in a line.
+token_file() { printf '7-0-%s' "$(head -c 12 "$room/$1/replica.token")"; }
+
 # What is typed in the editor from now on is stored in the folder $1 as the text $2, and no message of member 0 changes.
 sends_nothing() {
   local before
@@ -145,8 +148,8 @@ play_twice() {
   says_nothing 'neither says anything as yet'
   pane=other says_nothing 'in the other pane'
   cp "$room/apart"/*.member "$room/shared" && mv "$room/apart" "$room/gone" && ln -s shared "$room/apart"
-  shows 'that a number is used twice' 'number 0 is used twice'
-  pane=other shows 'the same in the other editor' 'number 0 is used twice'
+  shows 'that a number is used twice' "number 0 is used twice, as $(token_file twin)"
+  pane=other shows 'the same in the other editor' "number 0 is used twice, as $(token_file ada)"
   sends_nothing ada 'Start one two' ' two'
   pane=other sends_nothing twin 'Twin two' ' two'
   pane=other leave_editor
@@ -167,7 +170,7 @@ play_twice() {
   ben_has 'what is typed into it' 'Start one two, three four'
   says_nothing 'it says nothing'
   tmux -L "$socket" new-session -d -s other -x 100 -y 24 "$other"
-  pane=other shows 'that a copy of it was opened' 'number 0 is used twice'
+  pane=other shows 'that a copy of it was opened' "number 0 is used twice, as $(token_file ada)"
   pane=other sends_nothing twin 'Start one two, three of a copy' ' of a copy'
   pane=other leave_editor
   type_at_end ' five'
