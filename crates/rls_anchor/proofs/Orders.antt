@@ -3,16 +3,18 @@ use Rattle.std.proofs.Common.{◌≡◌, ◌≤◌, Bool, true, false, suc, List
 use Rattle.std.specs.Prelude.{filter, not, if◌then◌else◌}
 use Rattle.std.specs.Ordering.{is_lt}
 use Rattle.rls_ident.specs.declared.tuple.Tuple.{Tuple}
-use Rattle.rls_ident.specs.Identifiers.{ident_lt}
+use Rattle.rls_ident.specs.declared.epoch_name.EpochName.{EpochName}
+use Rattle.rls_ident.specs.Identifiers.{IsIdent, ident_lt}
 use Rattle.rls_ident.proofs.Lists.{lt_irrefl, lt_trans, tri}
 use Rattle.rls_ident.proofs.Members.{not_true}
 use Rattle.rls_runs.specs.Places.{below_count}
 use Rattle.rls_ident.proofs.Tuples.{lt_of, of_lt, tuples}
-use Rattle.rls_rename.proofs.Paths.{translate_order}
+use Rattle.rls_rename.proofs.Paths.{translate_ident, translate_order, translate_translate}
 use Rattle.rls_seen.specs.Over.{placed_over}
-use Rattle.rls_seen.specs.Seen.{greatest_over, idents_over}
+use Rattle.rls_seen.specs.Sane.{IsSane}
+use Rattle.rls_seen.specs.Seen.{Seen, greatest_over, idents_over, translate_over}
 use Rattle.rls_anchor.specs.Anchors.{count_upto, place_over}
-use Rattle.rls_anchor.specs.AnchorLaws.{StayInOrder}
+use Rattle.rls_anchor.specs.AnchorLaws.{StayInOrder, StayInOrderAcross}
 
 -- what is below one is at most it
 below_upto : (xs : List (List Tuple)) (x : List Tuple) → below_count xs x ≤ count_upto xs x
@@ -45,3 +47,21 @@ unfolding place_over
 stay_in_order s e x y sane i j h =
     let same : ident_lt (placed_over s e x) (placed_over s e y) ≡ ident_lt x y = ap is_lt (translate_order s.epochs.nodes e (greatest_over s) x y sane.epochs.nodes i j) in
     (omega arith, below_upto (idents_over s) (placed_over s e x), upto_below (idents_over s) (placed_over s e x) (placed_over s e y) (same ∙ h))
+
+-- by way of another epoch an identifier comes to the same place
+by_way : (s : Seen) (e g : EpochName) (x : List Tuple) → IsSane s → IsIdent x → placed_over s g (translate_over s e g x) ≡ placed_over s e x
+by_way s e g x sane i = translate_translate s.epochs.nodes e g (greatest_over s) x sane.epochs.nodes i
+
+pub stay_in_order_across : StayInOrderAcross
+unfolding place_over
+stay_in_order_across s e f g x y sane i j =
+    let nodes = s.epochs.nodes in
+    let u = translate_over s e g x in
+    let v = translate_over s f g y in
+    let p = by_way s e g x sane i in
+    let q = by_way s f g y sane j in
+    let order : ident_lt (placed_over s g u) (placed_over s g v) ≡ ident_lt u v = ap is_lt (translate_order nodes g (greatest_over s) u v sane.epochs.nodes (translate_ident nodes e g x sane.epochs.nodes i) (translate_ident nodes f g y sane.epochs.nodes j)) in
+    let there : ident_lt (placed_over s g u) (placed_over s g v) ≡ ident_lt (placed_over s e x) (placed_over s f y) = ap (λ z. ident_lt z (placed_over s g v)) p ∙ ap (ident_lt (placed_over s e x)) q in (
+      λ h. upto_below (idents_over s) (placed_over s e x) (placed_over s f y) (sym there ∙ (order ∙ h)),
+      λ h. subst (λ z. below_count (idents_over s) (placed_over s e x) ≤ count_upto (idents_over s) z) (sym p ∙ (ap (placed_over s g) h ∙ q)) (below_upto (idents_over s) (placed_over s e x)),
+    )
