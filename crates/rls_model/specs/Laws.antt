@@ -98,6 +98,10 @@ abbrev pub Distinct : Type 0
 Distinct = (H : History) (c d : Character) (e : EpochName) → IsLegal H → IsIn c (chars H) → IsIn d (chars H) → IsTrue (is_kept Origin (epochs H) e) →
     ident_in H e c ≡ ident_in H e d → c ≡ d
 
+-- the text of a legal history consists of characters
+abbrev pub TextsAreCharacters : Type 0
+TextsAreCharacters = (H : History) → IsLegal H → IsText (text H)
+
 -- the stable vector is at most the count and at most the row of each member that hasn't left, and nothing that may follow lowers it
 abbrev pub Stable : Type 0
 Stable = (H : History) → IsLegal H →

@@ -2,7 +2,7 @@
 
 ghost use Rattle.rls_model.specs.Laws.{Meaning, OrderKept, Inverse, LastKept, PathFree, Spanned, WindowSame, TestsEqual};
 ghost use Rattle.rls_model.specs.Laws.{OneOrder, OrderAgreed, PastKept, EditAlone, MadeByEdits, Gathered, StrongList, ArrivalApplied, SentArrives, EditsAreEvents, OneGroup, CommandsClean};
-ghost use Rattle.rls_model.specs.Laws.{OneTree, NoneUsed, AllUsed, OwnStems, Distinct, Stable, MadeFits, RenamedRun, InsertionLands};
+ghost use Rattle.rls_model.specs.Laws.{OneTree, NoneUsed, AllUsed, OwnStems, Distinct, TextsAreCharacters, Stable, MadeFits, RenamedRun, InsertionLands};
 ghost use Rattle.rls_model.specs.Laws.{KeptOn, ToldByWindow, Dropped, SameOperations, CutShort, EditApplied, WorldsLegal, EqualVectors, NoRefusal, EditsClean};
 
 /// A renaming takes a former identifier to the new one at its place, and what the old map of a gap gives to what its new map gives
@@ -64,6 +64,11 @@ pub fn fresh()
 /// In each epoch of a legal history two different characters have different identifiers.
 pub fn distinct()
     ensures distinct { Distinct }
+{}
+
+/// The text of a legal history consists of characters.
+pub fn texts_are_characters()
+    ensures texts_are_characters { TextsAreCharacters }
 {}
 
 /// The stable vector is at most the count and at most the row of each member that hasn't left, and nothing that may follow lowers it.
