@@ -28,7 +28,7 @@ at_each (m ∷ ms) [] e f = absurd (omega arith)
 at_each (m ∷ ms) (n ∷ ns) e f = and_true (nat_le m n) (at_most ms ns) (le_test m n (f 0)) (at_each ms ns (omega arith) (λ i. f (suc i)))
 
 -- a history with all operations of another counts as many
-part_count : (P H : History) → IsLegal P → IsLegal H → members_of P ≡ members_of H → ((o : Op) → IsIn o (ops P) → IsIn o (ops H)) → at_most (count P) (count H) ≡ true
+pub part_count : (P H : History) → IsLegal P → IsLegal H → members_of P ≡ members_of H → ((o : Op) → IsIn o (ops P) → IsIn o (ops H)) → at_most (count P) (count H) ≡ true
 part_count P H l m e f = at_each (count P) (count H) (length-count P ∙ (e ∙ sym (length-count H))) each
   where
     each : (a : ℕ) → count_of P a ≤ count_of H a
@@ -120,15 +120,20 @@ module _ (w : World) (i : ℕ) (s : State) (g : IsGood w) (h : IsAt w i s) where
                 (λ c. front_ops (a.0).history (b.0).history b.2 o (a.2 j u (below j n q (eq_not j n c)) k o p)),
           )
 
-  pub one_history : (M : History) × IsGathered w M
-  one_history =
+  -- one that goes on from this member's
+  pub grown_history : (M : History) × IsGathered w M × IsFront s.history M
+  grown_history =
       let r = up_to (length w.states) in (
         (r.0).history,
         (
           (((r.1).good).member i r.0 (get_set_same w.states i s r.0 h)).legal,
           λ o. (λ p. let k = (r.1).known o p in (o.author, k.0, k.1, k.2), λ k. r.2 k.0 k.1 (got_below w.states k.0 k.1 k.2) k.2 o k.3),
         ),
+        (r.1).grows,
       )
+
+  pub one_history : (M : History) × IsGathered w M
+  one_history = (grown_history.0, grown_history.1)
 
 none_there : (xs : List State) → slice_get xs 0 ≡ None → length xs ≡ 0
 none_there [] e = refl

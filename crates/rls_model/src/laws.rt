@@ -4,6 +4,7 @@ ghost use Rattle.rls_model.specs.Laws.{Meaning, OrderKept, Inverse, LastKept, Pa
 ghost use Rattle.rls_model.specs.Laws.{OneOrder, OrderAgreed, PastKept, EditAlone, MadeByEdits, Gathered, StrongList, ArrivalApplied, SentArrives, EditsAreEvents, OneGroup, CommandsClean};
 ghost use Rattle.rls_model.specs.Laws.{OneTree, NoneUsed, AllUsed, OwnStems, Distinct, TextsAreCharacters, Stable, MadeFits, RenamedRun, InsertionLands};
 ghost use Rattle.rls_model.specs.Laws.{KeptOn, ToldByWindow, Dropped, SameOperations, CutShort, EditApplied, WorldsLegal, EqualVectors, NoRefusal, EditsClean};
+ghost use Rattle.rls_model.specs.Rounds.{AllTold, OneRound, OneHub};
 
 /// A renaming takes a former identifier to the new one at its place, and what the old map of a gap gives to what its new map gives
 /// (this project, after `renameId` of RenamableLogootSplit).
@@ -142,6 +143,15 @@ pub fn arrival_applied()
 /// In a world a member that takes a sent message then has each of its operations, or holds it until its causes are there.
 pub fn sent_arrives()
     ensures sent_arrives { SentArrives }
+{}
+
+/// In a world where nobody edits any more, who is told each operation by somebody that knows it has all of them in the end, and nothing
+/// waits. So one round of messages makes all members equal, in whatever order they are taken: one from each to each other one, or one from
+/// each to one of them and then one from that one to each.
+pub fn one_round()
+    ensures all_told { AllTold }
+    ensures one_round { OneRound }
+    ensures one_hub { OneHub }
 {}
 
 /// In a world each member's history is legal, and its waiting operations fit to it.
