@@ -42,7 +42,7 @@ use Rattle.rls_file.specs.FileLaws.{AreSpelled}
 use Rattle.rls_file.specs.Storable.{IsStorable}
 use Rattle.rls_file.specs.Histories.{StorableIsReadBack}
 use Rattle.rls_file.specs.Stored.{FitFields}
-use Rattle.rls_file.proofs.Characters.{IsCharOf, export_chars}
+use Rattle.rls_model.proofs.Characters.{IsCharOf, export_chars}
 use Rattle.rls_file.proofs.HistoryIdents.{IsShortRun, all_ranged, idents_ranged, ranged_runs_fit}
 use Rattle.rls_file.proofs.HistoryMessages.{accepted_spelled, unstable_in}
 use Rattle.rls_file.proofs.Spelled.{node_in, text_runs_are}

@@ -21,7 +21,6 @@ use Rattle.rls_session.specs.Courses.{Answered}
 use Rattle.rls_session.specs.Replies.{again_text, back_text, groups_text, nothing_text}
 use Rattle.rls_session.specs.Sessions.{by_history, by_parts}
 use Rattle.rls_session.proofs.Steps.{AreBegun, AreStepsAlike, kept_steps, steps_alike, steps_begun}
-use Rattle.rls_file.proofs.Characters.{text_chars}
 use Rattle.rls_session.proofs.Whole.{whole_on}
 use Rattle.rls_session.proofs.AlikeSittings.{IsAlike, AreAlike, AreAlmost, almost, performed_storing}
 
@@ -57,17 +56,17 @@ group_almost d f text stack a b es h k p =
 
 pub backed_almost : (d : Sitting Seen) (f : Sitting State) → AreBegun d.state d.recorded f.recorded → IsAlike d f → AreAlmost (answers.backed by_parts d) (answers.backed by_history f)
 backed_almost d f g h =
-    group_almost d f back_text (λ r. r.past) _ (back_on within f.state) _ h (turned_alike text_chars d.state f.state d.recorded h.stands h.sane g.kept g.spelled).0 (turned_performed d.state d.recorded h.sane g.spelled).0
+    group_almost d f back_text (λ r. r.past) _ (back_on within f.state) _ h (turned_alike d.state f.state d.recorded h.stands h.sane g.kept g.spelled).0 (turned_performed d.state d.recorded h.sane g.spelled).0
 
 pub redone_almost : (d : Sitting Seen) (f : Sitting State) → AreBegun d.state d.recorded f.recorded → IsAlike d f → AreAlmost (answers.redone by_parts d) (answers.redone by_history f)
 redone_almost d f g h =
-    group_almost d f again_text (λ r. r.future) _ (again_on within f.state) _ h (turned_alike text_chars d.state f.state d.recorded h.stands h.sane g.kept g.spelled).1 (turned_performed d.state d.recorded h.sane g.spelled).1
+    group_almost d f again_text (λ r. r.future) _ (again_on within f.state) _ h (turned_alike d.state f.state d.recorded h.stands h.sane g.kept g.spelled).1 (turned_performed d.state d.recorded h.sane g.spelled).1
 
 -- the same edits
 turned_same : (d : Sitting Seen) (f : Sitting State) → AreBegun d.state d.recorded f.recorded → IsAlike d f →
     (back_edits over d.state d.recorded ≡ back_edits within f.state f.recorded) × (again_edits over d.state d.recorded ≡ again_edits within f.state f.recorded)
 turned_same d f g h =
-    let e = turned_edits_alike text_chars d.state f.state d.recorded h.stands h.sane g.kept g.spelled in
+    let e = turned_edits_alike d.state f.state d.recorded h.stands h.sane g.kept g.spelled in
     (e.0 ∙ ap (back_edits within f.state) (h.steps).same, e.1 ∙ ap (again_edits within f.state) (h.steps).same)
 
 pub turned_changes : (d : Sitting Seen) (f : Sitting State) → AreBegun d.state d.recorded f.recorded → IsAlike d f →

@@ -17,7 +17,7 @@ use Rattle.rls_seen.specs.Seen.{Seen, greatest_over, text_over}
 use Rattle.rls_seen.specs.Stands.{StandsFor}
 use Rattle.rls_seen.proofs.Editing.{made_alike}
 use Rattle.rls_seen.proofs.Keeping.{text_alike}
-use Rattle.rls_file.proofs.Characters.{text_chars}
+use Rattle.rls_model.proofs.Characters.{text_chars}
 use Rattle.rls_undo.specs.declared.entry.Entry.{Entry}
 use Rattle.rls_undo.specs.Plans.{entries_by, gone_by}
 use Rattle.rls_undo.specs.UndoLaws.{AreWhole, IsEntry}

@@ -13,7 +13,6 @@ use Rattle.rls_seen.specs.Stands.{StandsFor}
 use Rattle.rls_seen.proofs.Alike.{greatest_alike}
 use Rattle.rls_replica.specs.Names.{KeepsNames, keeps}
 use Rattle.rls_replica.proofs.KeptNames.{accepted_names}
-use Rattle.rls_file.proofs.Characters.{text_chars}
 use Rattle.rls_steps.specs.Forgetting.{forgotten, without_first}
 use Rattle.rls_steps.specs.Grounds.{over, within, begun_on, epoch_or, recorded_on, kept_on, settled_on}
 use Rattle.rls_steps.specs.GroundLaws as steps
@@ -96,7 +95,7 @@ made_steps s t edit r q p n h =
     let b = begun_on over s r in
     let c = begun_on within t q in
     let g = steps_begun s t r q p h in
-    let a = recorded_alike text_chars s t edit b p g.kept g.spelled in
+    let a = recorded_alike s t edit b p g.kept g.spelled in
     kept_steps (edited s edit) (accept t (made t.history edit)) (recorded_on over s edit b) (recorded_on within t edit c) n
     (begun_after s (edited s edit) (recorded_on over s edit b) (recorded_on within t edit c) (accepted_names s (made_over s edit))
     (record { same = a.0 ∙ ap (recorded_on within t edit) g.same; kept = recorded_kept s edit b g.kept; spelled = a.1 }))

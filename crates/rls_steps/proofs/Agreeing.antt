@@ -20,6 +20,7 @@ use Rattle.rls_model.specs.Document.{text}
 use Rattle.rls_model.specs.Editing.{made, edit_fault}
 use Rattle.rls_model.specs.Epochs.{greatest, translate}
 use Rattle.rls_model.specs.Receiving.{State, accept}
+use Rattle.rls_model.proofs.Characters.{text_chars}
 use Rattle.rls_replica.specs.Names.{keeps}
 use Rattle.rls_seen.specs.Edits.{edit_fault_over, edited}
 use Rattle.rls_seen.specs.Over.{placed_over}
@@ -46,7 +47,7 @@ use Rattle.rls_steps.specs.Recorded.{Recorded, steps_of}
 use Rattle.rls_steps.specs.Forgetting.{forgotten, without_first}
 use Rattle.rls_steps.specs.Sweeping.{swept, kept_in}
 use Rattle.rls_steps.specs.Grounds.{over, within, Held, labelled_on, labels_on, marks_on, put_on, ready_on, cut_on, piece_on, ranges_on, gone_on, place_on, Left, cuts_on, taken_on, Stand, steps_on, names_on, held_on, settled_on, added_on, Turned, back_on, exchanged}
-use Rattle.rls_steps.specs.GroundLaws.{IsSpelled, AreSpelled, IsWhole, AreAlike, TextsSpelled, TurnedAlike, RecordedAlike, KeptAlike}
+use Rattle.rls_steps.specs.GroundLaws.{IsSpelled, AreSpelled, IsWhole, AreAlike, TurnedAlike, RecordedAlike, KeptAlike}
 use Rattle.rls_steps.proofs.Unchanged.{insert_epochs, delete_epochs}
 
 -- the same labels at a history
@@ -91,11 +92,11 @@ put_to h t at labels cs p =
 
 -- ---- characters
 
-text_spelled : TextsSpelled → (s : Seen) (t : State) → StandsFor s t → IsText (text_over s)
-text_spelled k s t p = subst IsText (sym (text_alike s t p)) (k t.history p.legal)
+text_spelled : (s : Seen) (t : State) → StandsFor s t → IsText (text_over s)
+text_spelled s t p = subst IsText (sym (text_alike s t p)) (text_chars t.history p.legal)
 
-piece_spelled : TextsSpelled → (h : Held Seen) (t : State) (at n : ℕ) → StandsFor h.state t → IsSpelled (piece_on over h at n)
-piece_spelled k h t at n p = All-take IsScalar n (drop at (text_over h.state)) (All-drop IsScalar at (text_over h.state) (text_spelled k h.state t p))
+piece_spelled : (h : Held Seen) (t : State) (at n : ℕ) → StandsFor h.state t → IsSpelled (piece_on over h at n)
+piece_spelled h t at n p = All-take IsScalar n (drop at (text_over h.state)) (All-drop IsScalar at (text_over h.state) (text_spelled h.state t p))
 
 -- so are these pieces
 pub AreAll : List Piece → Type 0
@@ -112,10 +113,10 @@ pub record IsSame (h : Held Seen) (a : Left Seen) (b : Left State) : Type 0 wher
   pub spelled : AreAll a.other
   pub epochs : a.held.state.epochs ≡ h.state.epochs
 
-cuts_to : TextsSpelled → (h : Held Seen) (t : State) (rs : List (ℕ × ℕ)) (qs : List Piece) → StandsFor h.state t → IsSane h.state → AreAll qs → IsSame h (cuts_on over h rs qs) (cuts_on within (to h t) rs qs)
+cuts_to : (h : Held Seen) (t : State) (rs : List (ℕ × ℕ)) (qs : List Piece) → StandsFor h.state t → IsSane h.state → AreAll qs → IsSame h (cuts_on over h rs qs) (cuts_on within (to h t) rs qs)
 unfolding AreAll
-cuts_to k h t [] qs p s w = record { after = t; is = refl; stands = p; sane = s; spelled = w; epochs = refl }
-cuts_to k h t (r ∷ rs) qs p s w =
+cuts_to h t [] qs p s w = record { after = t; is = refl; stands = p; sane = s; spelled = w; epochs = refl }
+cuts_to h t (r ∷ rs) qs p s w =
     let e = edits.Delete r.0 r.1 in
     let g = ready_on over h r.0 r.1 in
     let n = accept t (made t.history e) in
@@ -130,7 +131,7 @@ cuts_to k h t (r ∷ rs) qs p s w =
     (go h t qs a b (edit_fault_over h.state e) p s w
     (λ q. let stands = subst (λ (x : Seen). StandsFor (edited x e) n) (sym still) (edited_stands h.state t e (delete_edit h.state r.0 r.1 s q) q p) in
     let sane = subst (λ (x : Seen). IsSane (edited x e)) (sym still) (edited_sane h.state e s (delete_edit h.state r.0 r.1 s q) q) in
-    let i = cuts_to k (cut_on over g r.0 r.1) n rs (piece_on over g r.0 r.1 ∷ qs) stands sane (piece_spelled k g t r.0 r.1 here, w) in
+    let i = cuts_to (cut_on over g r.0 r.1) n rs (piece_on over g r.0 r.1 ∷ qs) stands sane (piece_spelled g t r.0 r.1 here, w) in
     record { after = i.after; is = there ∙ i.is; stands = i.stands; sane = i.sane; spelled = i.spelled; epochs = i.epochs ∙ (delete_epochs g.state r.0 r.1 ∙ ap (λ (x : Seen). x.epochs) still) }))
   where
     go : (h : Held Seen) (t : State) (qs : List Piece) (a : Left Seen) (b : Left State) (f : Option EditError) → StandsFor h.state t → IsSane h.state → AreAll qs → (f ≡ None → IsSame h a b) →
@@ -155,12 +156,12 @@ pub place_to : (h : Held Seen) (t : State) (left right : Option ℕ) → StandsF
 place_to h t left right p =
     ap (λ (ms : List Mark). return_place ms left right (gone_on within (to h t) left)) (marks_to h t p) ∙ ap (λ (i : ℕ). return_place (marks_on over h) left right i) (gone_to h t left p)
 
-pub taken_to : TextsSpelled → (h : Held Seen) (t : State) (x : Piece) → StandsFor h.state t → IsSane h.state → IsSpelled x → IsSame h (taken_on over h x) (taken_on within (to h t) x)
+pub taken_to : (h : Held Seen) (t : State) (x : Piece) → StandsFor h.state t → IsSane h.state → IsSpelled x → IsSame h (taken_on over h x) (taken_on within (to h t) x)
 unfolding AreAll
-taken_to k h t (Put labels) p s w =
+taken_to h t (Put labels) p s w =
     subst (λ (rs : List (ℕ × ℕ)). IsSame h (taken_on over h (Put labels)) (cuts_on within (to h t) rs [])) (sym (ranges_to h t labels p))
-    (cuts_to k h t (ranges_on over h labels) [] p s tt)
-taken_to k h t (Cut labels cs left right) p s w =
+    (cuts_to h t (ranges_on over h labels) [] p s tt)
+taken_to h t (Cut labels cs left right) p s w =
     let at = place_on over h left right in
     let e = edits.Insert at cs in
     let n = accept t (made t.history e) in
@@ -238,16 +239,16 @@ record IsSameStand (h : Held Seen) (a : Stand Seen) (b : Stand State) : Type 0 w
   done : AreSpelled a.to
   epochs : a.held.state.epochs ≡ h.state.epochs
 
-steps_to : TextsSpelled → (n : ℕ) (h : Held Seen) (t : State) (xs ys : List Step) → StandsFor h.state t → IsSane h.state → AreSpelled xs → AreSpelled ys → IsSameStand h (steps_on over n h xs ys) (steps_on within n (to h t) xs ys)
-steps_to k zero h t xs ys p s u v = record { after = t; is = refl; stands = p; sane = s; from = u; done = v; epochs = refl }
-steps_to k (suc n) h t [] ys p s u v = record { after = t; is = refl; stands = p; sane = s; from = u; done = v; epochs = refl }
-steps_to k (suc n) h t (x ∷ xs) ys p s u v =
+steps_to : (n : ℕ) (h : Held Seen) (t : State) (xs ys : List Step) → StandsFor h.state t → IsSane h.state → AreSpelled xs → AreSpelled ys → IsSameStand h (steps_on over n h xs ys) (steps_on within n (to h t) xs ys)
+steps_to zero h t xs ys p s u v = record { after = t; is = refl; stands = p; sane = s; from = u; done = v; epochs = refl }
+steps_to (suc n) h t [] ys p s u v = record { after = t; is = refl; stands = p; sane = s; from = u; done = v; epochs = refl }
+steps_to (suc n) h t (x ∷ xs) ys p s u v =
     let a = taken_on over h x.piece in
-    let i = taken_to k h t x.piece p s u.0 in
+    let i = taken_to h t x.piece p s u.0 in
     let zs = ys ++ steps_of x.group a.other in
     let next : Left State → Stand State = λ y. let ws = ys ++ steps_of x.group y.other in unless y.fault (record { held = y.held; from = x ∷ xs; to = ws; fault = y.fault }) (steps_on within n y.held xs ws) in
     let w = spelled_append ys (steps_of x.group a.other) v (spelled_of x.group a.other i.spelled) in
-    let r = steps_to k n a.held i.after xs zs i.stands i.sane u.1 w in
+    let r = steps_to n a.held i.after xs zs i.stands i.sane u.1 w in
     let all : IsSameStand h (steps_on over n a.held xs zs) (steps_on within n (to a.held i.after) xs zs) =
     record { after = r.after; is = r.is; stands = r.stands; sane = r.sane; from = r.from; done = r.done; epochs = r.epochs ∙ i.epochs } in
     subst (λ (y : Left State). IsSameStand h (steps_on over (suc n) h (x ∷ xs) ys) (next y)) (sym i.is)
@@ -275,11 +276,11 @@ settled_to s t r p k =
     let there : EpochName → Names → Recorded = λ e ns. record { epoch = e; next = r.next; names = ns; past = r.past; future = r.future; group = r.group; after_sweep = r.after_sweep } in
     ap (λ (e : EpochName). there e (names_on over s r.epoch r.names)) (greatest_alike s t p) ∙ ap (there (greatest t.history)) (sym (names_to s t r.epoch r.names p k))
 
-back_alike : TextsSpelled → (s : Seen) (t : State) (r : Recorded) → StandsFor s t → IsSane s → IsTrue (keeps s r.epoch) → IsWhole r → AreAlike (back_on over s r) (back_on within t r)
-back_alike k s t r p sane kept w =
+back_alike : (s : Seen) (t : State) (r : Recorded) → StandsFor s t → IsSane s → IsTrue (keeps s r.epoch) → IsWhole r → AreAlike (back_on over s r) (back_on within t r)
+back_alike s t r p sane kept w =
     let n = group_size r.past in
     let h = held_on over s r in
-    let i = steps_to k n h t (reverse r.past) r.future p sane (spelled_back r.past w.0) w.1 in
+    let i = steps_to n h t (reverse r.past) r.future p sane (spelled_back r.past w.0) w.1 in
     let a = steps_on over n h (reverse r.past) r.future in
     let left : EpochName → ℕ → Names → List Step → List Step → Recorded = λ e m ns xs ys. record { epoch = e; next = m; names = reverse ns; past = reverse xs; future = ys; group = next_group r.group; after_sweep = r.after_sweep } in
     let later : Stand State → Turned State = λ y. record { steps = n; fault = y.fault; state = y.held.state; recorded = left (greatest t.history) y.held.next y.held.names y.from y.to } in
@@ -297,9 +298,9 @@ back_alike k s t r p sane kept w =
     })
 
 pub turned_alike : TurnedAlike
-turned_alike k s t r p sane kept w =
-    let b = back_alike k s t (exchanged r) p sane kept (w.1, w.0) in (
-      back_alike k s t r p sane kept w,
+turned_alike s t r p sane kept w =
+    let b = back_alike s t (exchanged r) p sane kept (w.1, w.0) in (
+      back_alike s t r p sane kept w,
       record { steps = b.steps; fault = b.fault; recorded = ap exchanged b.recorded; stands = b.stands; sane = b.sane; whole = (b.whole.1, b.whole.0); kept = b.kept },
     )
 
@@ -308,7 +309,7 @@ added_to s t r h n more p =
     ap (λ (e : EpochName). record { epoch = e; next = h.next; names = reverse h.names; past = r.past ++ more; future = []; group = r.group; after_sweep = r.after_sweep }) (greatest_alike s t p)
 
 pub recorded_alike : RecordedAlike
-recorded_alike k s t (edits.Insert at cs) r p kept w =
+recorded_alike s t (edits.Insert at cs) r p kept w =
     let labels = numbers_from r.next (length cs) in
     let more : List Step = record { group = r.group; piece = Put labels } ∷ [] in
     let h : Held Seen = record { state = s; next = length cs + r.next; names = (held_on over s r).names } in
@@ -317,7 +318,7 @@ recorded_alike k s t (edits.Insert at cs) r p kept w =
           ∙ (sym (ap (λ (z : Held State). added_on within t r z more) (put_to h t at labels cs p)) ∙ sym (ap later (names_to s t r.epoch r.names p kept))),
       (spelled_append r.past more w.0 (tt, tt), tt),
     )
-recorded_alike k s t (edits.Delete at n) r p kept w =
+recorded_alike s t (edits.Delete at n) r p kept w =
     let g = held_on over s r in
     let h = ready_on over g at n in
     let still : h.state ≡ s = labels_state g (take (n + 2) (drop (at - 1) (idents_over s))) in
@@ -328,10 +329,10 @@ recorded_alike k s t (edits.Delete at n) r p kept w =
       added_to s t r h t more p
           ∙ (sym (ap (λ (x : Piece). added_on within t r (to h t) (steps_of r.group (parts x))) (piece_to h t at n here))
           ∙ (sym (ap later (ready_to g t at n p)) ∙ sym (ap (λ (z : Held State). later (ready_on within z at n)) (held_to s t r p kept)))),
-      (spelled_append r.past more w.0 (spelled_of r.group (parts (piece_on over h at n)) (parts_spelled CHARACTERS (length cs) _ cs _ _ (piece_spelled k h t at n here))), tt),
+      (spelled_append r.past more w.0 (spelled_of r.group (parts (piece_on over h at n)) (parts_spelled CHARACTERS (length cs) _ cs _ _ (piece_spelled h t at n here))), tt),
     )
-recorded_alike k s t edits.Rename r p kept w = (refl, w)
-recorded_alike k s t edits.Leave r p kept w = (refl, w)
+recorded_alike s t edits.Rename r p kept w = (refl, w)
+recorded_alike s t edits.Leave r p kept w = (refl, w)
 
 pub kept_alike : KeptAlike
 kept_alike s t steps chars r p kept w =

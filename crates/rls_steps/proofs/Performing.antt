@@ -24,7 +24,7 @@ use Rattle.rls_steps.specs.Labelled.{label_of}
 use Rattle.rls_steps.specs.Groups.{group_size}
 use Rattle.rls_steps.specs.Recorded.{Recorded, steps_of}
 use Rattle.rls_steps.specs.Grounds.{Ground, over, within, Held, labelled_on, labels_on, put_on, ready_on, cut_on, piece_on, ranges_on, place_on, Left, cuts_on, taken_on, Stand, steps_on, held_on, back_on, again_on, exchanged, cut_edits, taken_edits, steps_edits, back_edits, again_edits}
-use Rattle.rls_steps.specs.GroundLaws.{IsSpelled, AreSpelled, IsWhole, TextsSpelled, ArePerformed, ArePerformedIn, TurnedPerformed, TurnedPerformedIn, TurnedEditsAlike}
+use Rattle.rls_steps.specs.GroundLaws.{IsSpelled, AreSpelled, IsWhole, ArePerformed, ArePerformedIn, TurnedPerformed, TurnedPerformedIn, TurnedEditsAlike}
 use Rattle.rls_steps.proofs.Agreeing.{to, ready_to, labels_state, insert_edit, place_to, ranges_to, taken_to, held_to, spelled_back}
 
 -- ---- over any kind of state
@@ -224,25 +224,25 @@ taken_edits_to h t (Cut labels cs left right) p s =
     ap (λ (i : ℕ). unless (edit_fault t.history (edits.Insert i cs)) [] (edits.Insert i cs ∷ [])) (place_to h t left right p)
     ∙ ap (λ (f : Option EditError). unless f [] (edits.Insert at cs ∷ [])) (sym (edit_faults_alike h.state t (edits.Insert at cs) p))
 
-steps_edits_to : TextsSpelled → (n : ℕ) (h : Held Seen) (t : State) (xs : List Step) → StandsFor h.state t → IsSane h.state → AreSpelled xs → steps_edits within n (to h t) xs ≡ steps_edits over n h xs
-steps_edits_to k zero h t xs p s w = refl
-steps_edits_to k (suc n) h t [] p s w = refl
-steps_edits_to k (suc n) h t (x ∷ xs) p s w =
+steps_edits_to : (n : ℕ) (h : Held Seen) (t : State) (xs : List Step) → StandsFor h.state t → IsSane h.state → AreSpelled xs → steps_edits within n (to h t) xs ≡ steps_edits over n h xs
+steps_edits_to zero h t xs p s w = refl
+steps_edits_to (suc n) h t [] p s w = refl
+steps_edits_to (suc n) h t (x ∷ xs) p s w =
     let a = taken_on over h x.piece in
-    let i = taken_to k h t x.piece p s w.0 in
+    let i = taken_to h t x.piece p s w.0 in
     let es = taken_edits over h x.piece in
     let rest : Left State → List Edit = λ y. unless y.fault [] (steps_edits within n y.held xs) in
     ap (λ (fs : List Edit). fs ++ rest (taken_on within (to h t) x.piece)) (taken_edits_to h t x.piece p s)
     ∙ (ap (λ (y : Left State). es ++ rest y) i.is
-    ∙ ap (λ (fs : List Edit). es ++ unless a.fault [] fs) (steps_edits_to k n a.held i.after xs i.stands i.sane w.1))
+    ∙ ap (λ (fs : List Edit). es ++ unless a.fault [] fs) (steps_edits_to n a.held i.after xs i.stands i.sane w.1))
 
-back_edits_to : TextsSpelled → (s : Seen) (t : State) (r : Recorded) → StandsFor s t → IsSane s → IsTrue (keeps s r.epoch) → IsWhole r → back_edits over s r ≡ back_edits within t r
-back_edits_to k s t r p sane kept w =
+back_edits_to : (s : Seen) (t : State) (r : Recorded) → StandsFor s t → IsSane s → IsTrue (keeps s r.epoch) → IsWhole r → back_edits over s r ≡ back_edits within t r
+back_edits_to s t r p sane kept w =
     let n = group_size r.past in
-    sym (ap (λ (z : Held State). steps_edits within n z (reverse r.past)) (held_to s t r p kept) ∙ steps_edits_to k n (held_on over s r) t (reverse r.past) p sane (spelled_back r.past w.0))
+    sym (ap (λ (z : Held State). steps_edits within n z (reverse r.past)) (held_to s t r p kept) ∙ steps_edits_to n (held_on over s r) t (reverse r.past) p sane (spelled_back r.past w.0))
 
 pub turned_edits_alike : TurnedEditsAlike
-turned_edits_alike k s t r p sane kept w = (back_edits_to k s t r p sane kept w, back_edits_to k s t (exchanged r) p sane kept (w.1, w.0))
+turned_edits_alike s t r p sane kept w = (back_edits_to s t r p sane kept w, back_edits_to s t (exchanged r) p sane kept (w.1, w.0))
 
 -- the state alone, whatever is recorded
 pub turned_state : (s : Seen) (r : Recorded) → ((back_on over s r).state ≡ performed_over s (back_edits over s r)) × ((again_on over s r).state ≡ performed_over s (again_edits over s r))

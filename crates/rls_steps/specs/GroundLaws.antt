@@ -2,9 +2,6 @@
 use Rattle.std.specs.Prelude.{◌≡◌, ℕ, List, [], ◌∷◌, IsTrue, None}
 use Rattle.rls_ops.specs.WellFormed.{IsText}
 use Rattle.rls_model.specs.declared.edit.Edit.{Edit}
-use Rattle.rls_model.specs.Document.{text}
-use Rattle.rls_model.specs.History.{History}
-use Rattle.rls_model.specs.Legal.{IsLegal}
 use Rattle.rls_model.specs.Receiving.{State}
 use Rattle.rls_model.specs.Laws.{AreEdits}
 use Rattle.rls_replica.specs.Names.{keeps}
@@ -40,16 +37,12 @@ pub record AreAlike (a : Turned Seen) (b : Turned State) : Type 0 where
   pub whole : IsWhole a.recorded
   pub kept : IsTrue (keeps a.state a.recorded.epoch)
 
--- each text of a legal history consists of characters
-abbrev pub TextsSpelled : Type 0
-TextsSpelled = (H : History) → IsLegal H → IsText (text H)
-
 abbrev pub TurnedAlike : Type 0
-TurnedAlike = TextsSpelled → (s : Seen) (t : State) (r : Recorded) → StandsFor s t → IsSane s → IsTrue (keeps s r.epoch) → IsWhole r →
+TurnedAlike = (s : Seen) (t : State) (r : Recorded) → StandsFor s t → IsSane s → IsTrue (keeps s r.epoch) → IsWhole r →
     AreAlike (back_on over s r) (back_on within t r) × AreAlike (again_on over s r) (again_on within t r)
 
 abbrev pub RecordedAlike : Type 0
-RecordedAlike = TextsSpelled → (s : Seen) (t : State) (edit : Edit) (r : Recorded) → StandsFor s t → IsTrue (keeps s r.epoch) → IsWhole r →
+RecordedAlike = (s : Seen) (t : State) (edit : Edit) (r : Recorded) → StandsFor s t → IsTrue (keeps s r.epoch) → IsWhole r →
     (recorded_on over s edit r ≡ recorded_on within t edit r) × IsWhole (recorded_on over s edit r)
 
 abbrev pub KeptAlike : Type 0
@@ -78,5 +71,5 @@ TurnedPerformedIn = (t : State) (r : Recorded) → ArePerformedIn t (back_edits 
 
 -- where these are the same
 abbrev pub TurnedEditsAlike : Type 0
-TurnedEditsAlike = TextsSpelled → (s : Seen) (t : State) (r : Recorded) → StandsFor s t → IsSane s → IsTrue (keeps s r.epoch) → IsWhole r →
+TurnedEditsAlike = (s : Seen) (t : State) (r : Recorded) → StandsFor s t → IsSane s → IsTrue (keeps s r.epoch) → IsWhole r →
     (back_edits over s r ≡ back_edits within t r) × (again_edits over s r ≡ again_edits within t r)
