@@ -1,7 +1,6 @@
 -- A request of a session of a group, where something may be drafted: the draft is made, and then it is answered; or a change goes on with the draft.
 use Rattle.std.proofs.Common.{◌≡◌, ◌∙◌, ◌+◌, ◌≤◌, ℕ, Bool, true, false, cond, ◌⊎◌, List, [], ◌++◌, length, Option, Some, None, refl, sym, ap, subst, inl, inr}
 use Rattle.std.proofs.lemmas.List.{append-nil}
-use Rattle.rls_ident.proofs.Members.{and_left}
 use Rattle.rls_ops.specs.declared.message.Message.{Message}
 use Rattle.rls_model.specs.declared.edit.Edit.{Edit}
 use Rattle.rls_model.specs.declared.edit.EditError.{EditError}
@@ -15,59 +14,32 @@ use Rattle.rls_seen.specs.Seen.{Seen, text_over}
 use Rattle.rls_seen.specs.Stands.{StandsFor}
 use Rattle.rls_seen.proofs.Keeping.{text_alike}
 use Rattle.rls_seen.proofs.Releasing.{first_alike}
-use Rattle.rls_report.specs.declared.failures.LineFault.{LineFault}
-use Rattle.rls_stages.specs.Lines.{allowed_by, fault_in, line_fault, text_in}
+use Rattle.rls_stages.specs.Lines.{allowed_by, fault_in, text_in}
 use Rattle.rls_top.specs.Groups.{Group}
 use Rattle.rls_top.proofs.Groups.{Matches}
 use Rattle.rls_session.specs.declared.draft.Draft.{Draft}
 use Rattle.rls_session.specs.declared.orders.Order.TheVariants as orders
 use Rattle.rls_session.specs.Answers.{Kind, Sitting, answer}
 use Rattle.rls_session.specs.Courses.{Answered}
-use Rattle.rls_session.specs.Drafts.{draft_of, is_none, joins, merged, shown_by}
-use Rattle.rls_session.specs.Replies.{noted_text, refused_text}
+use Rattle.rls_session.specs.Drafts.{draft_of, is_none, merged, shown_by}
+use Rattle.rls_session.specs.Replies.{noted_text}
 use Rattle.rls_session.specs.Requests.{Request, Does}
-use Rattle.rls_session.specs.Seats.{Seat, at_work, begun_at, begun_draft, changed, draft_fault, goes_with, made_all, made_each, making_fault, has_none, plan, respond, says_at, seat_of, seated, shown, worked}
+use Rattle.rls_session.specs.Seats.{Seat, at_work, begun_at, begun_draft, changed, draft_fault, goes_with, made_all, made_each, plan, respond, says_at, seat_of, seated, shown, worked}
 use Rattle.rls_session.specs.SessionLaws.{IsUnawaited}
 use Rattle.rls_session.specs.Sessions.{by_history, by_parts}
 use Rattle.rls_session.proofs.AlikeSeats.{AreSeatsAlike, at_work_alike, plan_alike, respond_alike, seated_alike}
 use Rattle.rls_session.proofs.AlikeSittings.{IsAlike}
-use Rattle.rls_session.proofs.Drafts.{merges_shown}
-use Rattle.rls_session.proofs.Drafting.{draft_within, joins_low, total_is}
+use Rattle.rls_session.proofs.Drafting.{draft_within, total_is}
 use Rattle.rls_session.proofs.Fitting.{IsMade, made_draft}
 use Rattle.rls_session.proofs.Given.{IsGiven}
+use Rattle.rls_session.proofs.Shown.{change_shows}
 use Rattle.rls_groups.specs.Events.{IsWritten, replied_from}
-use Rattle.rls_groups.specs.Groups.{AreMade, GoesOn, IsAnswered, IsClean, IsDraftMade, IsMadeBefore, IsShown, IsStored, state_after}
+use Rattle.rls_groups.specs.Groups.{AreMade, GoesOn, IsAnswered, IsClean, IsDraftMade, IsMadeBefore, IsStored, state_after}
 use Rattle.rls_groups.proofs.Answered.{Both, IsOther, IsTold, Stepped, rested_at, steps}
 use Rattle.rls_groups.proofs.Making.{after_each, all_state, each_made, each_stands, fit_alike}
 use Rattle.rls_groups.proofs.Requests.{Steps}
 use Rattle.rls_groups.proofs.Staying.{Follows, follows_self, follows_trans, has_or_holds, is_there}
 use Rattle.rls_groups.proofs.Steps.{IsUnderway}
-
--- ---- what is shown of a change
-
--- where the draft lies within the text, and nothing but its edits happens when it is made
-module _ {X : Type 0} (K : Kind X) (b : Seat X) (at n : ℕ) (cs : List ℕ) (within : is_none b.draft ≡ false → (b.draft).at + (b.draft).count ≤ length (K.text (b.sitting).state)) (same : K.text (at_work K b).state ≡ shown K b) where
-  abbrev c : Draft
-  c = draft_of at n cs
-
-  abbrev Shows : Answered (Seat X) → Type 0
-  Shows a = ((a.reply ≡ noted_text) × (shown K a.state ≡ shown_by c (shown K b))) ⊎ ((fault : LineFault) × (a.reply ≡ refused_text fault) × (shown K a.state ≡ shown K b))
-
-  begun_shows : (e : Option EditError) → Shows (begun_draft (at_work K b) c e)
-  begun_shows None = inl (refl, ap (shown_by c) same)
-  begun_shows (Some e) = inr (line_fault e, refl, same)
-
-  pub change_shows : IsShown K b at n cs
-  change_shows = go (goes_with K (b.sitting).state b.draft c) refl
-    where
-      total : ℕ
-      total = length (K.text (b.sitting).state)
-
-      go : (x : Bool) → goes_with K (b.sitting).state b.draft c ≡ x → Shows (cond x (says_at noted_text (seat_of b.sitting (merged b.draft c))) (begun_at K (at_work K b) c))
-      go false e = begun_shows (draft_fault K (at_work K b).state c)
-      go true e =
-          let j = joins_low total b.draft c (and_left (joins total b.draft c) (has_none (making_fault K (b.sitting).state (merged b.draft c))) e) in
-          inl (refl, merges_shown b.draft c (K.text (b.sitting).state) (within j.0) j.1 j.2)
 
 -- ---- in a group
 
@@ -252,8 +224,8 @@ module _ (g n : ℕ) (G : Group) (w : World) (x : Matches g n G w) (i : ℕ) (s 
               reply = a.reply;
               next = seats;
               later = (follows, l.1, l.2);
-              clean = (well.unawaited, change_shows by_parts b at m cs within well.shows);
-              meant = λ u l. (before u l, goes_on (next.sitting).state u l.0 l.1 l.2, change_shows by_history c at m cs within_history well.text_is);
+              clean = (well.unawaited, change_shows by_parts b (draft_of at m cs) within well.shows);
+              meant = λ u l. (before u l, goes_on (next.sitting).state u l.0 l.1 l.2, change_shows by_history c (draft_of at m cs) within_history well.text_is);
               told = λ y p. absurd p;
             }
 

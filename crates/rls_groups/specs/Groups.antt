@@ -40,10 +40,10 @@ use Rattle.rls_changes.specs.Edits.{edit_changes}
 use Rattle.rls_steps.specs.Grounds.{over, again_edits, back_edits}
 use Rattle.rls_session.specs.Answers.{Kind, Sitting, backed, edited as edited_by, made_changes, message_changes, read_line, redone, told, undone_changes, undone_last, with_begun, with_caught_up, with_changes}
 use Rattle.rls_session.specs.Courses.{Answered, Course, course, holds}
-use Rattle.rls_session.specs.Drafts.{draft_of, shown_by}
-use Rattle.rls_session.specs.Replies.{bytes_text, noted_text, ok_text, refused_text}
+use Rattle.rls_session.specs.Drafts.{draft_of}
+use Rattle.rls_session.specs.Replies.{bytes_text, ok_text}
 use Rattle.rls_session.specs.Requests.{Request, Does, Takes}
-use Rattle.rls_session.specs.SessionLaws.{IsUnawaited}
+use Rattle.rls_session.specs.SessionLaws.{IsUnawaited, ShowsChange}
 use Rattle.rls_session.specs.Seats.{Seat, at_work, plan, respond, says_at, seated, shown}
 use Rattle.rls_session.specs.Sessions.{by_history, by_parts}
 use Rattle.rls_groups.specs.Events.{AreOfGroup, Commands, Deed, Desk, Event, IsOfGroup, Sits, at_desk, replica_at, replied_from, session_at, session_due, stored_by}
@@ -60,12 +60,9 @@ IsTextOfAll g v reply = (j : ℕ) (t : State) (words : List (List ℕ)) (input :
 abbrev pub at_seat : {X : Type 0} → Answered (Sitting X) → Answered (Seat X)
 at_seat a = says_at a.reply (seated a.state)
 
--- A change of the editor is noted, and is in the text that is shown from then on; or it is refused, and that text is as before. No more is
--- answered, so nothing of it is told.
+-- a change of the editor is shown from then on, or it is refused, and what is shown is as before
 abbrev pub IsShown : {X : Type 0} → Kind X → Seat X → ℕ → ℕ → List ℕ → Type 0
-IsShown K b at n cs = let a = respond K b (Does (orders.Change at n cs)) in
-    ((a.reply ≡ noted_text) × (shown K a.state ≡ shown_by (draft_of at n cs) (shown K b)))
-    ⊎ ((fault : LineFault) × (a.reply ≡ refused_text fault) × (shown K a.state ≡ shown K b))
+IsShown K b at n cs = ShowsChange K b (draft_of at n cs) (respond K b (Does (orders.Change at n cs)))
 
 -- A change of the editor is shown. Every other request is answered once the draft is made: an edit, an undo and steps that are taken back or done
 -- again release nothing that waits, and tell what they change alone; `t` shows what others show; a message is taken, with none of its operations

@@ -10,10 +10,10 @@ use Rattle.rls_seen.specs.Sane.{IsSane}
 use Rattle.rls_seen.specs.Seen.{Seen, text_over}
 use Rattle.rls_stages.specs.Lines.{line_fault}
 use Rattle.rls_session.specs.declared.draft.Draft.{Draft}
-use Rattle.rls_session.specs.Answers.{Sitting}
-use Rattle.rls_session.specs.Drafts.{draft_of, joins, merged, shown_by}
+use Rattle.rls_session.specs.Answers.{Kind, Sitting}
+use Rattle.rls_session.specs.Drafts.{draft_of, is_none, joins, merged, shown_by}
 use Rattle.rls_session.specs.Replies.{noted_text}
-use Rattle.rls_session.specs.Seats.{Seat, at_work, begun_at, begun_draft, draft_fault, goes_with, has_none, made_all, made_each, making_fault, plan, says_at, seat_of}
+use Rattle.rls_session.specs.Seats.{Seat, at_work, begun_at, begun_draft, changed, draft_fault, goes_with, has_none, made_all, made_each, making_fault, plan, says_at, seat_of, shown}
 use Rattle.rls_session.specs.SessionLaws.{AreFaultless, ChangesShow, DraftsAreMade, IsUnawaited, ShowsChange}
 use Rattle.rls_session.specs.Sessions.{by_parts}
 use Rattle.rls_session.proofs.Drafting.{draft_within, joins_low, total_is}
@@ -40,23 +40,26 @@ worked_text b sane text h none = go (plan by_parts (b.sitting).state b.draft) (m
     go [] e none = e
     go (x ∷ xs) e none = ap text_over none ∙ e
 
-begun_shows : (b : Seat Seen) (d : Sitting Seen) (c : Draft) (f : Option EditError) → text_over d.state ≡ shown_by b.draft (text_over (b.sitting).state) → ShowsChange b c (begun_draft d c f)
-begun_shows b d c None e = inl (refl, ap (shown_by c) e)
-begun_shows b d c (Some x) e = inr (line_fault x, refl, e)
+-- Over any kind of state, where the draft lies within the text, and nothing but its edits happens when it is made, a change is shown: it goes on
+-- with the draft, or begins the next.
+module _ {X : Type 0} (K : Kind X) (b : Seat X) (c : Draft) (within : is_none b.draft ≡ false → (b.draft).at + (b.draft).count ≤ length (K.text (b.sitting).state)) (same : K.text (at_work K b).state ≡ shown K b) where
+  begun_shows : (f : Option EditError) → ShowsChange K b c (begun_draft (at_work K b) c f)
+  begun_shows None = inl (refl, ap (shown_by c) same)
+  begun_shows (Some e) = inr (line_fault e, refl, same)
+
+  pub change_shows : ShowsChange K b c (changed K b c)
+  change_shows = go (goes_with K s b.draft c) refl
+    where
+      s : X
+      s = (b.sitting).state
+
+      go : (x : Bool) → goes_with K s b.draft c ≡ x → ShowsChange K b c (cond x (says_at noted_text (seat_of b.sitting (merged b.draft c))) (begun_at K (at_work K b) c))
+      go true e =
+          let k = joins_low (length (K.text s)) b.draft c (and_left (joins (length (K.text s)) b.draft c) (has_none (making_fault K s (merged b.draft c))) e) in
+          inl (refl, merges_shown b.draft c (K.text s) (within k.0) k.1 k.2)
+      go false e = begun_shows (draft_fault K (at_work K b).state c)
 
 pub changes_shown : ChangesShow
-changes_shown b at count text sane spelled h none = go (goes_with by_parts s b.draft c) refl
-  where
-    s : Seen
-    s = (b.sitting).state
-
-    c : Draft
-    c = draft_of at count text
-
-    go : (x : Bool) → goes_with by_parts s b.draft c ≡ x → ShowsChange b c (cond x (says_at noted_text (seat_of b.sitting (merged b.draft c))) (begun_at by_parts (at_work by_parts b) c))
-    go true e =
-        let j = and_left (joins (length (text_over s)) b.draft c) (has_none (making_fault by_parts s (merged b.draft c))) e in
-        let k = joins_low (length (text_over s)) b.draft c j in
-        let within = draft_within s b.draft k.0 h in
-        inl (refl, merges_shown b.draft c (text_over s) (omega (arith, within, total_is s)) k.1 k.2)
-    go false e = begun_shows b (at_work by_parts b) c (draft_fault by_parts (at_work by_parts b).state c) (worked_text b sane spelled h none)
+changes_shown b at count text sane spelled h none =
+    let s = (b.sitting).state in
+    change_shows by_parts b (draft_of at count text) (λ some. let within = draft_within s b.draft some h in omega (arith, within, total_is s)) (worked_text b sane spelled h none)

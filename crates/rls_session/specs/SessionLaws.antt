@@ -12,7 +12,7 @@ use Rattle.rls_seen.specs.Edits.{edit_fault_over, edited}
 use Rattle.rls_seen.specs.Over.{released_all}
 use Rattle.rls_session.specs.declared.draft.Draft.{Draft}
 use Rattle.rls_session.specs.declared.orders.Order.TheVariants.{Change, Locate}
-use Rattle.rls_session.specs.Answers.{Sitting, spelled}
+use Rattle.rls_session.specs.Answers.{Kind, Sitting, spelled}
 use Rattle.rls_session.specs.Courses.{Answered}
 use Rattle.rls_session.specs.Drafts.{draft_of, shown_by}
 use Rattle.rls_session.specs.Orders.{order_of}
@@ -43,12 +43,12 @@ abbrev pub IsUnawaited : Seat Seen → Type 0
 IsUnawaited b = let made = (made_each by_parts b.sitting (plan by_parts (b.sitting).state b.draft)).state in released_all made ≡ made
 
 -- a change was noted, and is shown; or it was refused, and what is shown is as before
-abbrev pub ShowsChange : Seat Seen → Draft → Answered (Seat Seen) → Type 0
-ShowsChange b c a =
-    ((a.reply ≡ noted_text) × (shown by_parts a.state ≡ shown_by c (shown by_parts b)))
-    ⊎ ((fault : LineFault) × (a.reply ≡ refused_text fault) × (shown by_parts a.state ≡ shown by_parts b))
+abbrev pub ShowsChange : {X : Type 0} → Kind X → Seat X → Draft → Answered (Seat X) → Type 0
+ShowsChange K b c a =
+    ((a.reply ≡ noted_text) × (shown K a.state ≡ shown_by c (shown K b)))
+    ⊎ ((fault : LineFault) × (a.reply ≡ refused_text fault) × (shown K a.state ≡ shown K b))
 
 -- After each change the text that is shown is the one before with that replacement, or if it was refused the one before.
 abbrev pub ChangesShow : Type 0
 ChangesShow = (b : Seat Seen) (at count : ℕ) (text : List ℕ) → IsSane (b.sitting).state → IsText (b.draft).text → IsDrafted by_parts b → IsUnawaited b →
-    ShowsChange b (draft_of at count text) (respond by_parts b (Does (Change at count text)))
+    ShowsChange by_parts b (draft_of at count text) (respond by_parts b (Does (Change at count text)))
