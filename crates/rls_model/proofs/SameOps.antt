@@ -51,7 +51,7 @@ number_from o i x [] c p = absurd p
 number_from o i x (d ∷ cs) c (inl e) = (ap (λ (c : Character). c.author) e, ap (λ (c : Character). c.seq) e)
 number_from o i x (d ∷ cs) c (inr p) = number_from o (suc i) (shifted (pos 1) x) cs c p
 
-number_of : (o : Op) (b : Body) (c : Character) → IsIn c (chars_of o b) → (o.author ≡ c.author) × (o.seq ≡ c.seq)
+pub number_of : (o : Op) (b : Body) (c : Character) → IsIn c (chars_of o b) → (o.author ≡ c.author) × (o.seq ≡ c.seq)
 number_of o (Insert first text) c p = number_from o 0 first text c p
 number_of o (Delete targets) c p = absurd p
 number_of o (Rename xs) c p = absurd p

@@ -31,6 +31,7 @@ use Rattle.rls_seen.proofs.EditedText.{delete_made, delete_place, deleted, first
 use Rattle.rls_seen.proofs.Making.{edited_sane}
 use Rattle.rls_seen.proofs.Needed.{total_room}
 use Rattle.rls_replica.specs.Editing.{edited_text}
+use Rattle.rls_undo.proofs.AtOnce.{drop_front, take_front}
 use Rattle.rls_undo.proofs.Performed.{own_more}
 use Rattle.rls_session.specs.declared.draft.Draft.{Draft}
 use Rattle.rls_session.specs.Answers.{Sitting}
@@ -39,16 +40,6 @@ use Rattle.rls_session.specs.Seats.{goes_before, insertion_by, made_each, making
 use Rattle.rls_session.specs.Sessions.{by_parts}
 
 -- ---- lists
-
-take_front : {A : Type 0} (n : ℕ) (xs ys : List A) → n ≤ length xs → take n (take n xs ++ ys) ≡ take n xs
-take_front zero xs ys h = refl
-take_front (suc n) [] ys h = absurd (omega arith)
-take_front (suc n) (x ∷ xs) ys h = ap (λ zs. x ∷ zs) (take_front n xs ys (omega arith))
-
-drop_front : {A : Type 0} (n : ℕ) (xs ys : List A) → n ≤ length xs → drop n (take n xs ++ ys) ≡ ys
-drop_front zero xs ys h = refl
-drop_front (suc n) [] ys h = absurd (omega arith)
-drop_front (suc n) (x ∷ xs) ys h = drop_front n xs ys (omega arith)
 
 -- a list with `mid` put in at a place
 abbrev pub put_in : {A : Type 0} → ℕ → List A → List A → List A

@@ -83,12 +83,12 @@ greatest_delete : (s : Seen) (at m : ℕ) → greatest_over (edited s (edits.Del
 unfolding accepted made_over
 greatest_delete s at m = refl
 
-take_front : {A : Type 0} (n : ℕ) (xs ys : List A) → n ≤ length xs → take n (take n xs ++ ys) ≡ take n xs
+pub take_front : {A : Type 0} (n : ℕ) (xs ys : List A) → n ≤ length xs → take n (take n xs ++ ys) ≡ take n xs
 take_front zero xs ys h = refl
 take_front (suc n) [] ys h = absurd (omega arith)
 take_front (suc n) (x ∷ xs) ys h = ap (λ zs. x ∷ zs) (take_front n xs ys (omega arith))
 
-drop_front : {A : Type 0} (n : ℕ) (xs ys : List A) → n ≤ length xs → drop n (take n xs ++ ys) ≡ ys
+pub drop_front : {A : Type 0} (n : ℕ) (xs ys : List A) → n ≤ length xs → drop n (take n xs ++ ys) ≡ ys
 drop_front zero xs ys h = refl
 drop_front (suc n) [] ys h = absurd (omega arith)
 drop_front (suc n) (x ∷ xs) ys h = drop_front n xs ys (omega arith)
