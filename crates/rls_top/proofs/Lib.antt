@@ -14,3 +14,5 @@ mod Pieces
 mod Runs
 mod Scripts
 mod Statuses
+mod Worked
+mod WorkedFormats

@@ -7,3 +7,4 @@ pub mod Calls
 pub mod Running
 pub mod Headline
 pub mod Groups
+pub mod Computing
