@@ -3,6 +3,8 @@ pub mod Survived
 mod SessionsOnDisk
 mod Past
 mod Staying
+mod Inputs
+mod Desks
 mod Requests
 mod Steps
 mod Lines
@@ -14,6 +16,8 @@ mod Sessions
 mod Groups
 mod Ordered
 mod Law
+mod Between
 mod Runs
 mod Stores
 mod Premises
+mod Examples

@@ -1,13 +1,11 @@
 -- What the clauses of commands and sessions say of a run in a group.
-use Rattle.std.proofs.Common.{◌≡◌, ◌∙◌, ◌<◌, ◌≢◌, ◌++◌, ℕ, Bool, true, false, List, [], ◌∷◌, length, Option, Some, None, IfSome, Result, Ok, Err, refl, sym, ap, subst, inl, inr, ⊎_elim}
+use Rattle.std.proofs.Common.{◌≡◌, ◌∙◌, ◌<◌, ◌≢◌, ◌++◌, ℕ, Bool, List, [], ◌∷◌, length, Option, Some, None, IfSome, Result, Ok, Err, refl, sym, ap, subst, inl, inr, ⊎_elim}
 use Rattle.std.specs.Prelude.{IfOk, IsFalse, map, slice_get}
 use Rattle.rls_ident.specs.Lists.{IsIn}
-use Rattle.rls_ident.proofs.Members.{in_right, some_is}
-use Rattle.rls_ident.proofs.Positions.{get_of}
+use Rattle.rls_ident.proofs.Members.{some_is}
 use Rattle.rls_io.specs.Device.{Appends}
 use Rattle.rls_journal.specs.Areas.{Areas, kept}
 use Rattle.rls_journal.specs.Disk.{LeavesOnly}
-use Rattle.rls_model.proofs.OnePlace.{get_set_same}
 use Rattle.rls_seen.specs.Seen.{Seen}
 use Rattle.rls_report.specs.declared.failures.CommandError.{CommandError}
 use Rattle.rls_stages.specs.KeptFile.{bytes_over, loaded, replica_in}
@@ -18,7 +16,7 @@ use Rattle.rls_top.specs.declared.words.FileCommand.TheVariants.{Edit, Text, Ids
 use Rattle.rls_top.specs.Calls as commands
 use Rattle.rls_top.specs.Due.{Due, Makes, NoCommand, Stops, due, due_at, due_of_new, due_of_words, due_on, error_of_numbers}
 use Rattle.rls_top.specs.Endings.{IsKept, IsWritten}
-use Rattle.rls_top.specs.Groups.{Group, due_of, files_with, messages_of}
+use Rattle.rls_top.specs.Groups.{Group, files_with, messages_of}
 use Rattle.rls_top.specs.Words.{command_of}
 use Rattle.rls_session.specs.Answers.{sitting_at}
 use Rattle.rls_session.specs.Calls.{AreDue, AreFilesOf, IsFileOf, tried}
@@ -34,13 +32,12 @@ use Rattle.rls_journal.proofs.Moments.{leaves_weaker}
 use Rattle.rls_groups.specs.Stops.{IsOld, IsOldOrOneOf, LeavesOldOrDue}
 use Rattle.rls_journal.specs.Keeper.{IsOldOrNew}
 use Rattle.rls_groups.specs.Events as events
-use Rattle.rls_groups.specs.Events.{Commands, Deed, Sits, empty_desk, printed_of, replica_at, saved_of, session_at, session_due, stored_of}
-use Rattle.rls_groups.specs.Runs.{CommandsLeave, IsLeft, SessionsLeave, StopsLeave, StoresAtEnd, file_after, file_at}
+use Rattle.rls_groups.specs.Events.{Action, Begins, Performs, empty_desk, printed_of, replica_at, saved_of, session_at, session_due, stored_of}
+use Rattle.rls_groups.specs.Lives.{Life}
+use Rattle.rls_groups.specs.Runs.{CommandsLeave, IsFileAfter, IsLeft, SessionsLeave, StopsLeave, StoresAtEnd, file_at}
+use Rattle.rls_groups.proofs.Between.{all_done, file_after, set_there, written_after}
 
 -- ---- the file of a member
-
-pub set_there : (g : Group) (i : ℕ) (bytes : Seen) → i < length g.files → slice_get (files_with g.files i (Some bytes)) i ≡ Some (bytes_over bytes)
-set_there g i s l = let p = get_of g.files i l in get_set_same g.files i p.0 (bytes_over s) p.1
 
 -- what is kept, by what is called for
 kept_after : (g : Group) (i : ℕ) (now : Option (List ℕ)) (d : Due) → i < length g.files → IsKept d (Some (file_at g i)) (Some now) → now ≡ slice_get (files_with g.files i (stored_of (Some d))) i
@@ -83,16 +80,18 @@ printed c (Stops x) to old new e k = absurd k
 
 pub commands_leave : {K S W : Type 0} (file_of : K → Option (Option (List ℕ))) (keeper_faults : K → ℕ) (load : K → Bool → K → Type 0) (store : K → List ℕ → Bool → K → Type 0) (left_of : S → Option (List ℕ)) (input_faults : S → ℕ) (told_of : W → Option (List ℕ)) (output_faults : W → ℕ)
     → CommandsLeave file_of keeper_faults load store left_of input_faults told_of output_faults
-commands_leave file_of keeper_faults load store left_of input_faults told_of output_faults g i words input n keeper_old keeper_new input_old input_new output_old output_new l e before given =
+commands_leave file_of keeper_faults load store left_of input_faults told_of output_faults l i words input n keeper_old keeper_new input_old input_new output_old output_new m e before given =
+    let g = l.group in
     let q = words_told (command_of words) (file_at g i) input in
     let d = q.0 in (
       λ now after. (
-        λ stored. kept_after g i now d l (subst (λ (o : Option Due). IfSome o (λ d. IsKept d (Some (file_at g i)) (Some now))) q.1 (rw after at (rw given at (rw before at (e.file stored))))) ∙ ap (λ (o : Option Due). slice_get (files_with g.files i (stored_of o)) i) (sym q.1),
-        λ other. rw after at (rw before at (e.stays other)),
+        λ stored. file_after i l (Performs words input ∷ []) now m
+            (kept_after g i now d m (subst (λ (o : Option Due). IfSome o (λ d. IsKept d (Some (file_at g i)) (Some now))) q.1 (rw after at (rw given at (rw before at (e.file stored))))) ∙ ap (λ (o : Option Due). slice_get (files_with g.files i (stored_of o)) i) (sym q.1)),
+        λ other. file_after i l [] now m (rw after at (rw before at (e.stays other))),
       ),
       λ to old new done is told told_new.
           let k = printed (command_of words) d to old new is (subst (λ (o : Option Due). IfSome o (λ d. IsWritten d (Some old) (Some new))) q.1 (rw told_new at (rw told at (rw given at (rw before at (e.report done)))))) in
-          (k.0, k.1, in_right k.0 g.written (printed_of (command_of words) (due_of g i words input)) (subst (λ (o : Option Due). IsIn k.0 (printed_of (command_of words) o)) (sym q.1) k.2)),
+          (k.0, k.1, λ es own. written_after i k.0 (Performs words input) l m (subst (λ (o : Option Due). IsIn k.0 (printed_of (command_of words) o)) (sym q.1) k.2) es l m (record { file = refl; desk = refl }) own),
     )
 
 -- ---- sessions
@@ -106,51 +105,59 @@ session_kept : (g : Group) (i : ℕ) (now : Option (List ℕ)) (r : Result Seen 
 session_kept g i now (Ok s) l k = some_is now (Some (bytes_over s)) k.0 ∙ sym (set_there g i s l)
 session_kept g i now (Err e) l k = absurd k
 
-sessions_left : (g : Group) (i : ℕ) (input : List ℕ) (n : ℕ) (now : Option (List ℕ)) (old new : Option (List ℕ)) → i < length g.files → StoresAtEnd g i input → let file = Some (file_at g i) in let deed = Sits empty_desk input in
-    IfSome (session.due file (Some input)) (λ ds. Ends ds n file (Some now) old new) → (n ≡ 0 → (now ≡ file_after true g i deed) × Appends old new ((session_due g i empty_desk input).replies ++ saved_text)) × (n ≡ 9 → IsLeft g i deed now) × (n ≢ 0 → n ≢ 9 → now ≡ file_at g i)
-sessions_left g i input n now old new l at_end told = (λ e. (session_kept g i now d.ending l (ends.stored e), ends.written e), λ e. failed (ends.failing e), ends.stays)
+sessions_left : (l : Life) (i : ℕ) (input : List ℕ) (n : ℕ) (now : Option (List ℕ)) (old new : Option (List ℕ)) → i < length (l.group).files → StoresAtEnd l.group i input → let file = Some (file_at l.group i) in
+    IfSome (session.due file (Some input)) (λ ds. Ends ds n file (Some now) old new) →
+    (n ≡ 0 → IsFileAfter l i (Begins input ∷ []) now × Appends old new ((session_due l.group i empty_desk input).replies ++ saved_text)) × (n ≡ 9 → IsLeft l i [] (Begins input) now) × (n ≢ 0 → n ≢ 9 → IsFileAfter l i [] now)
+sessions_left l i input n now old new m at_end told = (λ e. (stored (ends.stored e), ends.written e), λ e. failed (ends.failing e), λ zero nine. file_after i l [] now m (ends.stays zero nine))
   where
     d : session.Due
-    d = session_due g i empty_desk input
+    d = session_due l.group i empty_desk input
 
-    ends : EndsIn d n (Some (file_at g i)) (Some now) old new
-    ends = subst (λ (o : Option (List session.Due)). IfSome o (λ ds. Ends ds n (Some (file_at g i)) (Some now) old new)) (session_told (replica_at g i) input at_end) told
+    ends : EndsIn d n (Some (file_at l.group i)) (Some now) old new
+    ends = subst (λ (o : Option (List session.Due)). IfSome o (λ ds. Ends ds n (Some (file_at l.group i)) (Some now) old new)) (session_told (replica_at l.group i) input at_end) told
 
-    failed : FailsAt d (Some (file_at g i)) (Some now) old new → IsLeft g i (Sits empty_desk input) now
-    failed (inl k) = (false, some_is now (file_at g i) k.0)
-    failed (inr k) = (true, session_kept g i now d.ending l k.0)
+    stored : endings.IsKept d.ending (Some (file_at l.group i)) (Some now) → IsFileAfter l i (Begins input ∷ []) now
+    stored k = file_after i l (Begins input ∷ []) now m (session_kept l.group i now d.ending m k)
+
+    failed : FailsAt d (Some (file_at l.group i)) (Some now) old new → IsLeft l i [] (Begins input) now
+    failed (inl k) = inl (file_after i l [] now m (some_is now (file_at l.group i) k.0))
+    failed (inr k) = inr (stored k.0)
 
 pub sessions_leave : {K : Type 0} (S W : Type 0) (load : K → Bool → K → Type 0) (store : K → List ℕ → Bool → K → Type 0) → SessionsLeave S W load store
-sessions_leave S W load store g i input n now keeper_old keeper_new input_old input_new output_old output_new old new l at_end h before given after =
-    sessions_left g i input n now old.told new.told l at_end
-    (subst (λ (f : Option (Option (List ℕ))). IfSome (session.due (Some (file_at g i)) (Some input)) (λ ds. Ends ds n (Some (file_at g i)) f old.told new.told)) after
-    (subst (λ (x : Option (List ℕ)). IfSome (session.due (Some (file_at g i)) x) (λ ds. Ends ds n (Some (file_at g i)) new.file old.told new.told)) given
+sessions_leave S W load store l i input n now keeper_old keeper_new input_old input_new output_old output_new old new m at_end h before given after =
+    sessions_left l i input n now old.told new.told m at_end
+    (subst (λ (f : Option (Option (List ℕ))). IfSome (session.due (Some (file_at l.group i)) (Some input)) (λ ds. Ends ds n (Some (file_at l.group i)) f old.told new.told)) after
+    (subst (λ (x : Option (List ℕ)). IfSome (session.due (Some (file_at l.group i)) x) (λ ds. Ends ds n (Some (file_at l.group i)) new.file old.told new.told)) given
     (subst (λ (f : Option (Option (List ℕ))). IfSome (session.due f old.left) (λ ds. Ends ds n f new.file old.told new.told)) before h.ends)))
 
 -- ---- stops
 
 module _ {D : Type 0} (moment : D → ℕ) (left_since : D → ℕ → Areas → Type 0) (stores_so : List ℕ → Bool → D → D → Type 0) where
   -- the file from before, or bytes that a run is to store
-  by_deed : (g : Group) (i : ℕ) (deed : Deed) (stores : Bool) (IsDue : List ℕ → Type 0) (old new : D) → ((bytes : List ℕ) → IsDue bytes → Some bytes ≡ file_after true g i deed) → LeavesOldOrDue moment left_since stores IsDue (file_at g i) old new →
-      LeavesOnly moment left_since old new (λ c. IsLeft g i deed (kept c))
-  by_deed g i deed stores IsDue old new f (inl k) = leaves_weaker moment left_since old new (IsOld (file_at g i)) (λ c. IsLeft g i deed (kept c)) (λ c p. (false, p)) k
-  by_deed g i deed stores IsDue old new f (inr k) =
-      leaves_weaker moment left_since old new (IsOldOrNew (file_at g i) (k.1).0) (λ c. IsLeft g i deed (kept c)) (λ c p. ⊎_elim (λ q. (false, q)) (λ q. (true, q ∙ f (k.1).0 (k.1).1)) p) (k.1).2
+  by_action : (l : Life) (i : ℕ) (action : Action) (stores : Bool) (IsDue : List ℕ → Type 0) (old new : D) → i < length (l.group).files → ((bytes : List ℕ) → IsDue bytes → Some bytes ≡ file_at (all_done i l (action ∷ [])).group i) → LeavesOldOrDue moment left_since stores IsDue (file_at l.group i) old new →
+      LeavesOnly moment left_since old new (λ c. IsLeft l i [] action (kept c))
+  by_action l i action stores IsDue old new m f (inl k) = leaves_weaker moment left_since old new (IsOld (file_at l.group i)) (λ c. IsLeft l i [] action (kept c)) (λ c p. inl (file_after i l [] (kept c) m p)) k
+  by_action l i action stores IsDue old new m f (inr k) =
+      leaves_weaker moment left_since old new (IsOldOrNew (file_at l.group i) (k.1).0) (λ c. IsLeft l i [] action (kept c))
+      (λ c p. ⊎_elim (λ q. inl (file_after i l [] (kept c) m q)) (λ q. inr (file_after i l (action ∷ []) (kept c) m (q ∙ f (k.1).0 (k.1).1))) p) (k.1).2
 
   pub stops_leave : StopsLeave moment left_since stores_so
-  stops_leave g i input old new l = (
-    λ words stores k. by_deed g i (Commands words input) stores (commands.IsDueOf (due words (Some (file_at g i)) (Some input))) old new (λ bytes p. of_command words bytes p) k,
-    λ at_end k. leaves_weaker moment left_since old new (IsOldOrOneOf (file_at g i) (tried k.files)) (λ c. IsLeft g i (Sits empty_desk input) (kept c))
-        (λ c p. ⊎_elim (λ q. (false, q)) (λ q. (true, q.2 ∙ of_session q.0 d.ending (one_file d (tried k.files) q.0 (subst (λ (o : Option (List session.Due)). AreDue o (tried k.files)) (session_told (replica_at g i) input at_end) k.due) q.1))) p) k.leaves,
+  stops_leave life i input old new l = (
+    λ words stores k. by_action life i (Performs words input) stores (commands.IsDueOf (due words (Some (file_at g i)) (Some input))) old new l (λ bytes p. of_command words bytes p) k,
+    λ at_end k. leaves_weaker moment left_since old new (IsOldOrOneOf (file_at g i) (tried k.files)) (λ c. IsLeft life i [] (Begins input) (kept c))
+        (λ c p. ⊎_elim (λ q. inl (file_after i life [] (kept c) l q)) (λ q. inr (file_after i life (Begins input ∷ []) (kept c) l (q.2 ∙ of_session q.0 d.ending (one_file d (tried k.files) q.0 (subst (λ (o : Option (List session.Due)). AreDue o (tried k.files)) (session_told (replica_at g i) input at_end) k.due) q.1)))) p) k.leaves,
   )
     where
+      g : Group
+      g = life.group
+
       of_file : (bytes : List ℕ) (d : Due) → commands.IsDueFile d bytes → Some bytes ≡ slice_get (files_with g.files i (stored_of (Some d))) i
       of_file bytes NoCommand p = absurd p
       of_file bytes (Makes None report refused) p = absurd p
       of_file bytes (Makes (Some s) report refused) p = ap (λ (b : List ℕ). Some b) p ∙ sym (set_there g i s l)
       of_file bytes (Stops e) p = absurd p
 
-      of_command : (words : List (List ℕ)) (bytes : List ℕ) → commands.IsDueOf (due words (Some (file_at g i)) (Some input)) bytes → Some bytes ≡ file_after true g i (Commands words input)
+      of_command : (words : List (List ℕ)) (bytes : List ℕ) → commands.IsDueOf (due words (Some (file_at g i)) (Some input)) bytes → Some bytes ≡ file_at (all_done i life (Performs words input ∷ [])).group i
       of_command words bytes p =
           let q = words_told (command_of words) (file_at g i) input in
           of_file bytes q.0 (subst (λ (o : Option Due). commands.IsDueOf o bytes) q.1 p) ∙ ap (λ (o : Option Due). slice_get (files_with g.files i (stored_of o)) i) (sym q.1)

@@ -27,9 +27,11 @@ use Rattle.rls_session.specs.Seats.{Seat, at_work, respond, seated}
 use Rattle.rls_session.specs.Sessions.{by_history, by_parts}
 use Rattle.rls_session.proofs.AlikeSeats.{seated_alike}
 use Rattle.rls_session.proofs.Given.{IsGiven, cut_given}
-use Rattle.rls_groups.specs.Events.{Desk, IsSession, IsWritten, at_desk, replica_at, replied_from}
+use Rattle.rls_groups.specs.Events.{Desk, IsSession, IsUsable, IsWritten, at_desk, replica_at, replied_from, unanswered}
 use Rattle.rls_groups.specs.Groups.{IsDraftMade, IsSavedOrLong}
 use Rattle.rls_groups.proofs.Answered.{IsTold}
+use Rattle.rls_groups.proofs.Desks.{usable_alike}
+use Rattle.rls_groups.proofs.Inputs.{holds_alike}
 use Rattle.rls_groups.proofs.Requests.{Went, went}
 use Rattle.rls_groups.proofs.Seated.{IsCleanFrom, IsDone, IsMadeWell, Later, Seats, drafts_made, later_self, later_trans, made_well, seat_steps}
 use Rattle.rls_groups.proofs.Staying.{follows_self}
@@ -59,17 +61,16 @@ module _ (g n : ℕ) (G : Group) (w : World) (x : Matches g n G w) (i : ℕ) (r 
   pub found : replica_at G i ≡ Ok s
   found = ap (λ (k : Option (List ℕ)). replica_in (loaded k)) r.file ∙ opened_at r.bytes s (r.kept).short o.found
 
-  pub asked : IfOk (replica_at G i) (λ s. IsSession G s desk input) → IsSession G s desk input
-  asked p = subst (λ (y : Result Seen CommandError). IfOk y (λ s. IsSession G s desk input)) found p
+  usable_here : IsSession G i desk input → IsUsable s desk
+  usable_here p = subst (λ (y : Result Seen CommandError). IfOk y (λ s. IsUsable s desk)) found p.usable
 
   -- nothing is sent yet
   begins : Stands g n (with_done w i r.state [])
   begins = subst (Stands g n) (sym (ap (λ (xs : List State). record { states = xs; sent = w.sent ++ [] }) (set_get w.states i r.state r.at) ∙ ap (λ (ms : List Message). record { states = w.states; sent = ms }) (append-nil w.sent))) x.stands
 
-  first : IsSession G s desk input → Seats g n G w x i r.state r.at (seated (at_desk s desk)) (seated (at_desk r.state desk)) []
+  first : IsSession G i desk input → Seats g n G w x i r.state r.at (seated (at_desk s desk)) (seated (at_desk r.state desk)) []
   first q = record {
-    alike = seated_alike (at_desk s desk) (at_desk r.state desk)
-        (record { stands = o.stands; sane = o.sane; writable = o.writable; entries = refl; cursors = refl; tells = refl; whole = q.whole; texts = q.texts; steps = record { same = refl; kept = q.kept; spelled = q.spelled } });
+    alike = seated_alike (at_desk s desk) (at_desk r.state desk) (usable_alike r.bytes s r.state desk o (usable_here q));
     underway = record { stands = begins; storable = (r.kept).storable };
     front = front_self (r.state).history;
   }
@@ -77,13 +78,14 @@ module _ (g n : ℕ) (G : Group) (w : World) (x : Matches g n G w) (i : ℕ) (r 
   abbrev pub All : Type 0
   All = Went (respond by_parts) (respond by_history) replied_from (Seats g n G w x i r.state r.at) (Later g n G w x i r.state r.at) (λ b r. IsWritten G r) (IsCleanFrom g n G w x i r.state r.at) (IsDone g n G w x i r.state r.at) (IsTold g n G w x i r.state r.at) 0 (seated (at_desk s desk)) (seated (at_desk r.state desk)) input []
 
-  pub all : IsSession G s desk input → All
+  pub all : IsSession G i desk input → All
   all q =
       went (respond by_parts) (respond by_history) replied_from (Seats g n G w x i r.state r.at) (Later g n G w x i r.state r.at) (λ b r. IsWritten G r) (IsCleanFrom g n G w x i r.state r.at) (IsDone g n G w x i r.state r.at) (IsTold g n G w x i r.state r.at)
       (λ b c out k. later_self g n G w x i r.state r.at b c out k) (λ e c u h k. later_trans g n G w x i r.state r.at e c u h k)
       IsBytes IsGiven (λ b bytes c. (cut_given (b ∷ bytes) c, IsBytes-tail b bytes c))
       (λ b c out y ok given k. seat_steps g n G w x i r.state r.at b c out k y ok given)
-      0 (seated (at_desk s desk)) (seated (at_desk r.state desk)) input [] q.bytes q.given (first q)
+      0 (seated (at_desk s desk)) (seated (at_desk r.state desk)) input [] q.bytes
+      (holds_alike unanswered (respond by_parts) (IsWritten G) 0 tt (seated (at_desk s desk)) input q.written) (first q)
 
   -- what is drafted at the end is made
   abbrev pub last_here : Seat Seen

@@ -1,5 +1,5 @@
 -- The statuses with which the keeper fails aren't those with which a file is stored.
-use Rattle.std.proofs.Common.{◌≡◌, ℕ, inl, inr, arith}
+use Rattle.std.proofs.Common.{ℕ, inl, inr, arith}
 use Rattle.rls_stages.specs.Calls.{IsKeepersStatus}
 use Rattle.rls_top.specs.Endings.{IsStored}
 

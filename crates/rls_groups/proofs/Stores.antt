@@ -3,46 +3,25 @@ use Rattle.std.proofs.Common.{◌≡◌, ◌≢◌, ◌∙◌, ◌<◌, ◌≤�
 use Rattle.std.specs.Prelude.{slice_get}
 use Rattle.std.proofs.lemmas.Bool.Decides.{eqb_tells, nat_tests}
 use Rattle.rls_ident.specs.declared.limits.TheConstants.{FILE_BYTES, INPUT_BYTES}
-use Rattle.rls_ident.specs.declared.epoch_name.EpochName.{EpochName}
-use Rattle.rls_ident.proofs.Members.{some_is}
+use Rattle.rls_ident.proofs.Members.{eq_refl, some_is}
 use Rattle.rls_codec.specs.CodecLaws.{IsBytes}
 use Rattle.rls_codec.proofs.Formats.{IsBytes-drop, IsBytes-tail}
 use Rattle.rls_file.specs.Files.{file_bytes}
-use Rattle.rls_rename.proofs.Kept.{greatest_kept}
-use Rattle.rls_model.specs.Epochs.{greatest}
 use Rattle.rls_model.specs.Parts.{parts}
 use Rattle.rls_model.specs.Receiving.{State}
-use Rattle.rls_model.proofs.OnePlace.{length-set}
 use Rattle.rls_seen.specs.Seen.{Seen}
 use Rattle.rls_seen.specs.Stands.{StandsFor}
-use Rattle.rls_seen.proofs.Alike.{greatest_alike}
 use Rattle.rls_seen.proofs.Keeping.{parts_alike}
-use Rattle.rls_replica.specs.Names.{keeps}
-use Rattle.rls_undo.specs.declared.entry.Entry.{Entry}
-use Rattle.rls_undo.specs.declared.entry.Entry.TheVariants.{Inserted, Removed}
-use Rattle.rls_undo.specs.Plans.{epoch_in}
-use Rattle.rls_undo.specs.UndoLaws.{AreWhole}
-use Rattle.rls_undo.specs.Undoing.{last_entries, settled}
-use Rattle.rls_steps.specs.GroundLaws as steps
-use Rattle.rls_steps.specs.Labelled.{Names}
-use Rattle.rls_session.specs.declared.desk.TheConstants.{KEPT_ENTRIES}
-use Rattle.rls_anchor.specs.declared.anchor.Anchor.{Anchor}
-use Rattle.rls_anchor.specs.declared.anchor.Anchor.TheVariants.{Beginning, After, Before}
-use Rattle.rls_anchor.specs.AnchorLaws.{IsAnchored}
-use Rattle.rls_anchor.specs.Anchors as anchors
 use Rattle.rls_report.specs.declared.failures.CommandError.{CommandError}
 use Rattle.rls_report.specs.declared.failures.CommandError.TheVariants.{TooLarge}
 use Rattle.rls_stages.specs.KeptFile.{IsFileFor, bytes_over, loaded, replica_in}
 use Rattle.rls_stages.proofs.Files.{IsOpened, opened, stands_stored}
 use Rattle.rls_stages.proofs.Kept.{WithinOrPast, within_or_past}
-use Rattle.rls_top.specs.Groups.{Group, files_with}
+use Rattle.rls_top.specs.Groups.{files_with}
 use Rattle.rls_top.proofs.GroupCommands.{opened_at}
-use Rattle.rls_session.specs.declared.cursors.Cursor.{Cursor}
-use Rattle.rls_session.specs.Cursors.{AreAnchored, moved}
 use Rattle.rls_session.specs.Answers.{Sitting, resumed, sitting_at}
 use Rattle.rls_session.specs.Calls.{AreDue, AreFilesOf, IsFileOf, and_failed}
-use Rattle.rls_session.specs.Courses.{Course, course_of, stretches, stretches_within}
-use Rattle.rls_session.specs.Desks.{AreKept, AreUndoable, IsWhole, sitting_of}
+use Rattle.rls_session.specs.Courses.{Course, course, course_of, stretches, stretches_within}
 use Rattle.rls_session.specs.Due.{Due, due, due_of, due_on, stops}
 use Rattle.rls_session.specs.Endings.{Ends, EndsIn, EndsOn, FailsAt, IsKept}
 use Rattle.rls_session.specs.Seats.{closed, course_at, respond, resumed_seat, seated}
@@ -51,7 +30,6 @@ use Rattle.rls_session.proofs.Given.{IsGiven, cut_given}
 use Rattle.rls_session.proofs.AlikeSittings.{IsAlike}
 use Rattle.rls_session.proofs.AlikeSeats.{AreSeatsAlike, at_work_alike, respond_alike, seated_alike}
 use Rattle.rls_session.proofs.Alike.{resumed_alike}
-use Rattle.rls_session.proofs.Steps.{AreStepsAlike}
 use Rattle.rls_session.proofs.Courses.{IsSameCourse, courses_alike}
 use Rattle.rls_journal.specs.Areas.{Areas, kept}
 use Rattle.rls_journal.specs.Disk.{LeavesOnly}
@@ -59,83 +37,13 @@ use Rattle.rls_journal.specs.Keeper.{IsOldOrNew}
 use Rattle.rls_groups.specs.Stops.{IsOld, LeavesInStore, LeavesInTurn}
 use Rattle.rls_journal.proofs.Moments.{leaves_both, leaves_weaker}
 use Rattle.rls_groups.specs.Events as events
-use Rattle.rls_groups.specs.Events.{Deed, Sits, after_run, at_desk, replica_at, saved_of, session_due}
-use Rattle.rls_groups.specs.Runs.{IsLeft, LeavesDeeds, StoppedStores, StoresLeave, after_deeds, deed_of, deeds_from, deeds_of, desk_of, file_at}
-use Rattle.rls_groups.proofs.Runs.{set_there}
+use Rattle.rls_groups.specs.Events.{Action, Begins, Deed, Desk, Resumes, Sits, after_run, at_desk, deed_of, desk_after, desk_by, desk_of, desk_on, empty_desk, replica_at, saved_of, unanswered}
+use Rattle.rls_groups.specs.Lives.{Life, lived}
+use Rattle.rls_groups.specs.Runs.{IsFileAfter, IsLeft, LeavesActions, StoppedStores, StoresLeave, actions_over, file_at, goes_on_over}
+use Rattle.rls_groups.proofs.Between.{all_done, all_done_more, done, file_after, set_there, there_still}
+use Rattle.rls_groups.proofs.Desks.{IsWell, same_desk, usable_alike, well_empty, well_resumed, well_usable}
+use Rattle.rls_groups.proofs.Inputs.{ComeAsFar, come_alike}
 use Rattle.rls_groups.proofs.Sessions.{EndsSo, ends_so}
-
--- ---- what a session goes back to, after a store
-
--- entries, cursors and names of this epoch
-abbrev AreAt : EpochName → List Entry → Type 0
-AreAt g [] = Unit {0}
-AreAt g (e ∷ es) = (epoch_in e ≡ g) × AreAt g es
-
-abbrev IsAt : EpochName → Anchor → Type 0
-IsAt g Beginning = Unit {0}
-IsAt g (After e x) = e ≡ g
-IsAt g (Before e x) = e ≡ g
-
-abbrev ArePut : EpochName → List Cursor → Type 0
-ArePut g [] = Unit {0}
-ArePut g (c ∷ cs) = IsAt g c.anchor × ArePut g cs
-
-abbrev AreNamed : EpochName → EpochName → Names → Type 0
-AreNamed g e [] = Unit {0}
-AreNamed g e (n ∷ ns) = e ≡ g
-
-record IsRecent (u : Sitting State) : Type 0 where
-  entries : AreAt (greatest (u.state).history) u.entries
-  cursors : ArePut (greatest (u.state).history) u.cursors
-  named : AreNamed (greatest (u.state).history) (u.recorded).epoch (u.recorded).names
-
-settled_at : (t : State) (e : Entry) → epoch_in (settled t.history e) ≡ greatest t.history
-settled_at t (Inserted e ids) = refl
-settled_at t (Removed e first text) = refl
-
-all_at : (t : State) (es : List Entry) → AreAt (greatest t.history) (map (settled t.history) es)
-all_at t [] = tt
-all_at t (e ∷ es) = (settled_at t e, all_at t es)
-
-cursor_at : (t : State) (a : Anchor) → IsAt (greatest t.history) (anchors.settled t.history a)
-cursor_at t Beginning = tt
-cursor_at t (After e x) = refl
-cursor_at t (Before e x) = refl
-
-cursors_at : (t : State) (cs : List Cursor) → ArePut (greatest t.history) (map (moved (anchors.settled t.history)) cs)
-cursors_at t [] = tt
-cursors_at t (c ∷ cs) = (cursor_at t c.anchor, cursors_at t cs)
-
-named_at : (g : EpochName) (ns : Names) → AreNamed g g ns
-named_at g [] = tt
-named_at g (n ∷ ns) = refl
-
-recent : (u : Sitting State) → IsRecent (resumed by_history u)
-recent u = record { entries = all_at u.state (last_entries KEPT_ENTRIES u.entries); cursors = cursors_at u.state u.cursors; named = named_at (greatest (u.state).history) ((resumed by_history u).recorded).names }
-
--- is kept by each replica that stands for the history
-kept_at : (o : Seen) (t : State) → StandsFor o t → keeps o (greatest t.history) ≡ true
-kept_at o t h = subst (λ (g : EpochName). keeps o g ≡ true) (greatest_alike o t h) (greatest_kept o.epochs.top o.epochs.nodes)
-
-entries_kept : (o : Seen) (g : EpochName) (es : List Entry) → keeps o g ≡ true → AreAt g es → AreUndoable o es
-entries_kept o g [] k h = tt
-entries_kept o g (e ∷ es) k h = (subst (λ (x : EpochName). keeps o x ≡ true) (sym h.0) k, entries_kept o g es k h.1)
-
-cursor_kept : (o : Seen) (g : EpochName) (a : Anchor) → keeps o g ≡ true → IsAt g a → IsAnchored o a
-cursor_kept o g Beginning k h = tt
-cursor_kept o g (After e x) k h = subst (λ (y : EpochName). keeps o y ≡ true) (sym h) k
-cursor_kept o g (Before e x) k h = subst (λ (y : EpochName). keeps o y ≡ true) (sym h) k
-
-cursors_kept : (o : Seen) (g : EpochName) (cs : List Cursor) → keeps o g ≡ true → ArePut g cs → AreAnchored o cs
-cursors_kept o g [] k h = tt
-cursors_kept o g (c ∷ cs) k h = (cursor_kept o g c.anchor k h.0, cursors_kept o g cs k h.1)
-
-names_kept : (o : Seen) (g e : EpochName) (ns : Names) → keeps o g ≡ true → AreNamed g e ns → AreKept o e ns
-names_kept o g e [] k h = tt
-names_kept o g e (n ∷ ns) k h = subst (λ (y : EpochName). keeps o y ≡ true) (sym h) k
-
-usable : (o : Seen) (u : Sitting State) → StandsFor o u.state → IsRecent u → IsWhole o u.entries u.cursors
-usable o u h r = record { undoable = entries_kept o _ u.entries (kept_at o u.state h) r.entries; anchored = cursors_kept o _ u.cursors (kept_at o u.state h) r.cursors }
 
 -- ---- one store
 
@@ -166,216 +74,309 @@ same_bytes c k f same other is = go (ends_so c) (ends_so k)
     go (inl x) (inr (e, inl long)) = absurd (never (sym is ∙ ending_long c (omega (arith, long, same.used, other.used))))
     go (inl x) (inr (e, inr large)) = absurd (omega (arith, x.1, large, equal))
 
--- what comes after a stretch, of what is called for and of the deeds
+-- ---- from store to store
+
+-- what comes after a stretch, of what is called for and of what the session does
 mine : ℕ → Sitting Seen → List ℕ → Bool → List Due
 mine m d input x = map due_of (map (closed by_parts) (map (course_of (respond by_parts)) (cond x (stretches_within (respond by_parts) (resumed_seat by_parts) m (seated (resumed by_parts (course_at by_parts d input).state)) (drop (suc (course_at by_parts d input).used) input)) [])))
 
-theirs : ℕ → Sitting State → List ℕ → Bool → ℕ → List Deed
-theirs m u input x k = deeds_of (cond x (stretches_within (respond by_history) (resumed_seat by_history) m (seated (resumed by_history (course_at by_history u input).state)) (drop (suc k) input)) [])
+theirs : ℕ → List ℕ → Bool → ℕ → List Action
+theirs m input x k = goes_on_over (cond x (stretches_within unanswered (λ u. u) m tt (drop (suc k) input)) [])
 
-none_both : (m : ℕ) (d : Sitting Seen) (u : Sitting State) (input : List ℕ) (x : Bool) (k : ℕ) → mine m d input x ≡ [] → theirs m u input x k ≡ []
+-- of what it does, beginning with this
+abbrev acts : ℕ → Action → List ℕ → List Action
+acts zero action input = []
+acts (suc m) action input = action ∷ theirs m input (course unanswered tt input).stores (course unanswered tt input).used
+
+goes_on : (m : ℕ) (input : List ℕ) (k : ℕ) → theirs m input true k ≡ acts m (Resumes (drop (suc k) input)) (drop (suc k) input)
+unfolding theirs
+goes_on zero input k = refl
+goes_on (suc m) input k = refl
+
+none_both : (m : ℕ) (d : Sitting Seen) (input : List ℕ) (x : Bool) (k : ℕ) → mine m d input x ≡ [] → theirs m input x k ≡ []
 unfolding mine theirs
-none_both m d u input false k e = refl
-none_both zero d u input true k e = refl
-none_both (suc m) d u input true k e = absurd cc
+none_both m d input false k e = refl
+none_both zero d input true k e = refl
+none_both (suc m) d input true k e = absurd cc
 
--- a member is still there
-there_still : {i : ℕ} (g : Group) (l : i < length g.files) (deed : Deed) → i < length (after_run true g i deed).files
-there_still {i} g l deed = go (events.stored_by g i deed)
-  where
-    go : (o : Option Seen) → i < length (files_with g.files i o)
-    go None = l
-    go (Some s) = let e = length-set g.files i (bytes_over s) in omega (arith, e, l)
+as_far : (d : Sitting Seen) (input : List ℕ) → ComeAsFar (respond by_parts) unanswered (course (respond by_parts) (seated d) input) (course unanswered tt input)
+as_far d input = come_alike (respond by_parts) unanswered 0 (seated d) tt input
 
 module _ (i : ℕ) where
-  -- the member's file says a replica that is alike
-  stored_at : (g : Group) (l : i < length g.files) (bytes : List ℕ) (d : Sitting Seen) (u : Sitting State) (input : List ℕ) → file_at g i ≡ Some bytes → length bytes ≤ FILE_BYTES → IsFileFor bytes u.state → IsBytes input → IsAlike d u → IsRecent u
-      → (due_of (course_at by_parts d input)).ending ≡ Ok ((course_at by_parts d input).state).state
-      → Some (bytes_over ((course_at by_parts d input).state).state) ≡ file_at (after_run true g i (deed_of (record { state = seated u; input = input }))) i
-  stored_at g l bytes d u input at short stands b h r is = saved ∙ sym (there (replica_at g i) found)
-    where
-      o : (s : Seen) × IsOpened bytes u.state s
-      o = opened bytes u.state stands
+  -- A session of the member stands here: over a file that stands for a history, it answers as over the history, and goes back to nothing else.
+  -- What it does next is this, over this input.
+  record Stands (l : Life) (action : Action) (bytes : List ℕ) (d : Sitting Seen) (f : Sitting State) (input : List ℕ) : Type 0 where
+    member : i < length (l.group).files
+    at : file_at l.group i ≡ Some bytes
+    short : length bytes ≤ FILE_BYTES
+    for : IsFileFor bytes f.state
+    given : IsBytes input
+    alike : IsAlike d f
+    well : IsWell f.state (desk_of f)
+    does : deed_of (l.desks i) action ≡ Sits (desk_of f) input
 
-      found : replica_at g i ≡ Ok o.0
-      found = ap (λ (k : Option (List ℕ)). replica_in (loaded k)) at ∙ opened_at bytes o.0 short o.1.found
+  abbrev next : Life → Action → Life
+  next l action = lived l (done i action)
 
-      same : IsSameCourse IsAlike (course_at by_parts d input) (course_at by_history u input)
-      same = alike_course d u input b h
+  module _ (l : Life) (action : Action) (bytes : List ℕ) (d : Sitting Seen) (f : Sitting State) (input : List ℕ) (h : Stands l action bytes d f input) where
+    abbrev course_here : Course (Sitting Seen)
+    course_here = course_at by_parts d input
 
-      mine : Sitting Seen
-      mine = sitting_of o.0 u.entries u.cursors u.recorded u.tells
+    abbrev stored_here : List ℕ
+    stored_here = bytes_over (course_here.state).state
 
-      recorded : AreStepsAlike o.0 u.recorded u.recorded
-      recorded = record { same = refl; kept = names_kept o.0 _ _ (u.recorded).names (kept_at o.0 u.state o.1.stands) r.named; spelled = subst steps.IsWhole (h.steps).same (h.steps).spelled }
+    abbrev rest_here : List ℕ
+    rest_here = drop (suc course_here.used) input
 
-      other : IsSameCourse IsAlike (course_at by_parts mine input) (course_at by_history u input)
-      other = alike_course mine u input b (record { stands = o.1.stands; sane = o.1.sane; writable = o.1.writable; entries = refl; cursors = refl; tells = refl; whole = usable o.0 u o.1.stands r; texts = subst AreWhole h.entries h.texts; steps = recorded })
+    same : IsSameCourse IsAlike course_here (course_at by_history f input)
+    same = alike_course d f input h.given h.alike
 
-      saved : Some (bytes_over ((course_at by_parts d input).state).state) ≡ Some (bytes_over ((course_at by_parts mine input).state).state)
-      saved = ap (λ (x : List ℕ). Some x) (bytes_of_state _ ((course_at by_history u input).state).state (same.states).stands ∙ sym (bytes_of_state _ ((course_at by_history u input).state).state (other.states).stands))
+    o : (s : Seen) × IsOpened bytes f.state s
+    o = opened bytes f.state h.for
 
-      ending : (due_of (course_at by_parts mine input)).ending ≡ Ok ((course_at by_parts mine input).state).state
-      ending = same_bytes (course_at by_parts d input) (course_at by_parts mine input) (course_at by_history u input) same other is
+    -- the session over the file that is stored
+    abbrev again : Sitting Seen
+    again = at_desk o.0 (desk_of f)
 
-      there : (x : Result Seen CommandError) → x ≡ Ok o.0 → slice_get (files_with g.files i (saved_of (events.due_on x (desk_of u) input).ending)) i ≡ Some (bytes_over ((course_at by_parts mine input).state).state)
-      there x e = rw (e, ending) (set_there g i ((course_at by_parts mine input).state).state l)
+    found : replica_at l.group i ≡ Ok o.0
+    found = ap (λ (k : Option (List ℕ)). replica_in (loaded k)) h.at ∙ opened_at bytes o.0 h.short o.1.found
 
-  -- what is kept after a course that is stored
-  kept_at_end : (c : Course (Sitting Seen)) (f : Course (Sitting State)) (bytes : List ℕ) (now : Option (Option (List ℕ))) → IsSameCourse IsAlike c f → IsKept (due_of c).ending (Some (Some bytes)) now
-      → ((due_of c).ending ≡ Ok (c.state).state) × (now ≡ Some (Some (bytes_over (c.state).state))) × (length (bytes_over (c.state).state) ≤ FILE_BYTES) × IsFileFor (bytes_over (c.state).state) (f.state).state
-  kept_at_end c f bytes now same k = go (ends_so c) k
-    where
-      go : EndsSo c → IsKept (due_of c).ending (Some (Some bytes)) now → ((due_of c).ending ≡ Ok (c.state).state) × (now ≡ Some (Some (bytes_over (c.state).state))) × (length (bytes_over (c.state).state) ≤ FILE_BYTES) × IsFileFor (bytes_over (c.state).state) (f.state).state
-      go (inl e) k =
-          let here = subst (λ (x : Result Seen CommandError). IsKept x (Some (Some bytes)) now) e.0 k in
-          (e.0, here.0, e.1, stands_stored (c.state).state (f.state).state (same.states).stands here.1)
-      go (inr e) k = absurd (subst (λ (x : Result Seen CommandError). IsKept x (Some (Some bytes)) now) e.0 k)
+    other : IsSameCourse IsAlike (course_at by_parts again input) (course_at by_history f input)
+    other =
+        let k = usable_alike bytes o.0 f.state (desk_of f) o.1 (well_usable o.0 f.state (desk_of f) o.1.stands h.well) in
+        alike_course again f input h.given (record { stands = k.stands; sane = k.sane; writable = k.writable; entries = refl; cursors = refl; tells = refl; whole = k.whole; texts = k.texts; steps = k.steps })
 
-  -- what is left, if these are the deeds to come
-  record IsLeftOf (n : ℕ) (g : Group) (deeds : List Deed) (now : Option (List ℕ)) : Type 0 where
-    pub all : n ≡ 0 → now ≡ file_at (after_deeds g i deeds) i
-    pub some : (k : ℕ) × (now ≡ file_at (after_deeds g i (take k deeds)) i)
+    ending : (due_of course_here).ending ≡ Ok (course_here.state).state → (due_of (course_at by_parts again input)).ending ≡ Ok ((course_at by_parts again input).state).state
+    ending is = same_bytes course_here (course_at by_parts again input) (course_at by_history f input) same other is
+
+    -- is stored by the event
+    stored_at : (due_of course_here).ending ≡ Ok (course_here.state).state → Some stored_here ≡ file_at (next l action).group i
+    stored_at is = saved ∙ (sym (there (replica_at l.group i) found) ∙ ap (λ (deed : Deed). file_at (after_run true l.group i deed) i) (sym h.does))
+      where
+        saved : Some stored_here ≡ Some (bytes_over ((course_at by_parts again input).state).state)
+        saved = ap (λ (x : List ℕ). Some x) (bytes_of_state _ ((course_at by_history f input).state).state (same.states).stands ∙ sym (bytes_of_state _ ((course_at by_history f input).state).state (other.states).stands))
+
+        there : (x : Result Seen CommandError) → x ≡ Ok o.0 → slice_get (files_with (l.group).files i (saved_of (events.due_on x (desk_of f) input).ending)) i ≡ Some (bytes_over ((course_at by_parts again input).state).state)
+        there x e = rw (e, ending is) (set_there l.group i ((course_at by_parts again input).state).state h.member)
+
+    -- and the session goes on with this
+    desk_then : (due_of course_here).ending ≡ Ok (course_here.state).state → (next l action).desks i ≡ desk_of (resumed by_history (course_at by_history f input).state)
+    desk_then is = rw (eq_refl i) (ap (desk_after l.group i) h.does ∙ (there (replica_at l.group i) found ∙ same_desk _ _ (resumed_alike _ _ other.states)))
+      where
+        there : (x : Result Seen CommandError) → x ≡ Ok o.0 → desk_on x (desk_of f) input ≡ desk_of (resumed by_parts (course_at by_parts again input).state)
+        there x e = rw (e, ending is) refl
+
+    stands_then : (due_of course_here).ending ≡ Ok (course_here.state).state → length stored_here ≤ FILE_BYTES → IsFileFor stored_here ((course_at by_history f input).state).state →
+        Stands (next l action) (Resumes rest_here) stored_here (resumed by_parts course_here.state) (resumed by_history (course_at by_history f input).state) rest_here
+    stands_then is short for = record {
+      member = there_still i l (done i action) h.member;
+      at = sym (stored_at is);
+      short = short;
+      for = for;
+      given = IsBytes-drop (suc course_here.used) input h.given;
+      alike = resumed_alike _ _ same.states;
+      well = let w = well_resumed course_here.state (course_at by_history f input).state same.states in record { entries = w.entries; cursors = w.cursors; named = w.named; texts = w.texts; spelled = w.spelled };
+      does = ap (λ (desk : Desk). Sits desk rest_here) (desk_then is);
+    }
+
+    -- what is kept after a course that is stored
+    kept_at_end : (now : Option (Option (List ℕ))) → IsKept (due_of course_here).ending (Some (Some bytes)) now
+        → ((due_of course_here).ending ≡ Ok (course_here.state).state) × (now ≡ Some (Some stored_here)) × (length stored_here ≤ FILE_BYTES) × IsFileFor stored_here ((course_at by_history f input).state).state
+    kept_at_end now k = go (ends_so course_here) k
+      where
+        go : EndsSo course_here → IsKept (due_of course_here).ending (Some (Some bytes)) now → ((due_of course_here).ending ≡ Ok (course_here.state).state) × (now ≡ Some (Some stored_here)) × (length stored_here ≤ FILE_BYTES) × IsFileFor stored_here ((course_at by_history f input).state).state
+        go (inl e) k =
+            let here = subst (λ (x : Result Seen CommandError). IsKept x (Some (Some bytes)) now) e.0 k in
+            (e.0, here.0, e.1, stands_stored (course_here.state).state ((course_at by_history f input).state).state (same.states).stands here.1)
+        go (inr e) k = absurd (subst (λ (x : Result Seen CommandError). IsKept x (Some (Some bytes)) now) e.0 k)
+
+    -- what is stored after it
+    file_stored : (b : List ℕ) → IsFileOf (due_of course_here).ending b → ((due_of course_here).ending ≡ Ok (course_here.state).state) × (b ≡ stored_here) × (length stored_here ≤ FILE_BYTES) × IsFileFor stored_here ((course_at by_history f input).state).state
+    file_stored b k = go (ends_so course_here)
+      where
+        go : EndsSo course_here → ((due_of course_here).ending ≡ Ok (course_here.state).state) × (b ≡ stored_here) × (length stored_here ≤ FILE_BYTES) × IsFileFor stored_here ((course_at by_history f input).state).state
+        go (inl e) =
+            let here = subst (λ (x : Result Seen CommandError). IsFileOf x b) e.0 k in
+            (e.0, here.0, e.1, stands_stored (course_here.state).state ((course_at by_history f input).state).state (same.states).stands here.1)
+        go (inr e) = absurd (subst (λ (x : Result Seen CommandError). IsFileOf x b) e.0 k)
+
+  -- ---- how it ended
+
+  -- what is left, if this is what the session does
+  record IsLeftOf (n : ℕ) (l : Life) (actions : List Action) (now : Option (List ℕ)) : Type 0 where
+    all : n ≡ 0 → now ≡ file_at (all_done i l actions).group i
+    some : (k : ℕ) × (now ≡ file_at (all_done i l (take k actions)).group i)
 
   module _ (n : ℕ) (now : Option (List ℕ)) (new : Option (List ℕ)) where
+    abbrev SomeOf : Life → List Action → Type 0
+    SomeOf l actions = (k : ℕ) × (now ≡ file_at (all_done i l (take k actions)).group i)
+
     -- it ended in this stretch
-    in_stretch : (g : Group) (l : i < length g.files) (bytes : List ℕ) (d : Sitting Seen) (u : Sitting State) (input : List ℕ) (old : Option (List ℕ)) (others : List Deed) → file_at g i ≡ Some bytes → length bytes ≤ FILE_BYTES → IsFileFor bytes u.state → IsBytes input → IsAlike d u → IsRecent u
-        → (n ≡ 0 → others ≡ []) → EndsIn (due_of (course_at by_parts d input)) n (Some (Some bytes)) (Some now) old new → IsLeftOf n g (deed_of (record { state = seated u; input = input }) ∷ others) now
-    in_stretch g l bytes d u input old others at short stands b h r none e = record {
-      all = λ z. subst (λ (ds : List Deed). now ≡ file_at (after_deeds g i (deed_of (record { state = seated u; input = input }) ∷ ds)) i) (sym (none z)) (done (e.stored z));
+    in_stretch : (l : Life) (action : Action) (bytes : List ℕ) (d : Sitting Seen) (f : Sitting State) (input : List ℕ) (old : Option (List ℕ)) (others : List Action) → Stands l action bytes d f input
+        → (n ≡ 0 → others ≡ []) → EndsIn (due_of (course_at by_parts d input)) n (Some (Some bytes)) (Some now) old new → IsLeftOf n l (action ∷ others) now
+    in_stretch l action bytes d f input old others h none e = record {
+      all = λ z. subst (λ (xs : List Action). now ≡ file_at (all_done i l (action ∷ xs)).group i) (sym (none z)) (stored (e.stored z));
       some = at_zero (eqb_tells n 0);
     }
       where
-        done : IsKept (due_of (course_at by_parts d input)).ending (Some (Some bytes)) (Some now) → now ≡ file_at (after_run true g i (deed_of (record { state = seated u; input = input }))) i
-        done k =
-            let kept = kept_at_end (course_at by_parts d input) (course_at by_history u input) bytes (Some now) (alike_course d u input b h) k in
-            some_is now (Some (bytes_over ((course_at by_parts d input).state).state)) kept.1 ∙ stored_at g l bytes d u input at short stands b h r kept.0
+        stored : IsKept (due_of (course_at by_parts d input)).ending (Some (Some bytes)) (Some now) → now ≡ file_at (next l action).group i
+        stored k = let q = kept_at_end l action bytes d f input h (Some now) k in some_is now (Some (stored_here l action bytes d f input h)) q.1 ∙ stored_at l action bytes d f input h q.0
 
-        once : IsKept (due_of (course_at by_parts d input)).ending (Some (Some bytes)) (Some now) → (k : ℕ) × (now ≡ file_at (after_deeds g i (take k (deed_of (record { state = seated u; input = input }) ∷ others))) i)
-        once k = (1, done k)
+        never : now ≡ Some bytes → SomeOf l (action ∷ others)
+        never e = (0, e ∙ sym h.at)
 
-        never : now ≡ Some bytes → (k : ℕ) × (now ≡ file_at (after_deeds g i (take k (deed_of (record { state = seated u; input = input }) ∷ others))) i)
-        never same = (0, same ∙ sym at)
-
-        fails : FailsAt (due_of (course_at by_parts d input)) (Some (Some bytes)) (Some now) old new → (k : ℕ) × (now ≡ file_at (after_deeds g i (take k (deed_of (record { state = seated u; input = input }) ∷ others))) i)
+        fails : FailsAt (due_of (course_at by_parts d input)) (Some (Some bytes)) (Some now) old new → SomeOf l (action ∷ others)
         fails (inl k) = never (some_is now (Some bytes) k.0)
-        fails (inr k) = once k.0
+        fails (inr k) = (1, stored k.0)
 
-        at_nine : n ≢ 0 → ((eqb n 9 ≡ true) × (n ≡ 9)) ⊎ ((eqb n 9 ≡ false) × (n ≢ 9)) → (k : ℕ) × (now ≡ file_at (after_deeds g i (take k (deed_of (record { state = seated u; input = input }) ∷ others))) i)
-        at_nine other (inl z) = fails (e.failing z.1)
-        at_nine other (inr z) = never (e.stays other z.1)
+        at_nine : n ≢ 0 → ((eqb n 9 ≡ true) × (n ≡ 9)) ⊎ ((eqb n 9 ≡ false) × (n ≢ 9)) → SomeOf l (action ∷ others)
+        at_nine some (inl z) = fails (e.failing z.1)
+        at_nine some (inr z) = never (e.stays some z.1)
 
-        at_zero : ((eqb n 0 ≡ true) × (n ≡ 0)) ⊎ ((eqb n 0 ≡ false) × (n ≢ 0)) → (k : ℕ) × (now ≡ file_at (after_deeds g i (take k (deed_of (record { state = seated u; input = input }) ∷ others))) i)
-        at_zero (inl z) = once (e.stored z.1)
+        at_zero : ((eqb n 0 ≡ true) × (n ≡ 0)) ⊎ ((eqb n 0 ≡ false) × (n ≢ 0)) → SomeOf l (action ∷ others)
+        at_zero (inl z) = (1, stored (e.stored z.1))
         at_zero (inr z) = at_nine z.1 (eqb_tells n 9)
 
-    -- it went on after this deed
-    later_left : (g : Group) (deed : Deed) (deeds : List Deed) → IsLeftOf n (after_run true g i deed) deeds now → IsLeftOf n g (deed ∷ deeds) now
-    later_left g deed deeds h = record { all = h.all; some = (suc (h.some).0, (h.some).1) }
-
     -- it ended in this stretch, or stored and went on
-    at_stretch : (g : Group) (l : i < length g.files) (bytes : List ℕ) (d : Sitting Seen) (u : Sitting State) (input : List ℕ) (old : Option (List ℕ)) (ds : List Due) (deeds : List Deed) → file_at g i ≡ Some bytes → length bytes ≤ FILE_BYTES → IsFileFor bytes u.state → IsBytes input
-        → IsAlike d u → IsRecent u → (ds ≡ [] → deeds ≡ []) → EndsOn (due_of (course_at by_parts d input)) ds n (Some (Some bytes)) (Some now) old new
-        → ((mid : Option (List ℕ)) (stored : List ℕ) → file_at (after_run true g i (deed_of (record { state = seated u; input = input }))) i ≡ Some stored → length stored ≤ FILE_BYTES → IsFileFor stored ((course_at by_history u input).state).state → Ends ds n (Some (Some stored)) (Some now) mid new
-        → IsLeftOf n (after_run true g i (deed_of (record { state = seated u; input = input }))) deeds now) → IsLeftOf n g (deed_of (record { state = seated u; input = input }) ∷ deeds) now
-    at_stretch g l bytes d u input old [] deeds at short stands b h r none e more = in_stretch g l bytes d u input old deeds at short stands b h r (λ z. none refl) e
-    at_stretch g l bytes d u input old (x ∷ ds) deeds at short stands b h r none (inl e) more = in_stretch g l bytes d u input old deeds at short stands b h r (λ z. absurd (e.0 z)) e.1
-    at_stretch g l bytes d u input old (x ∷ ds) deeds at short stands b h r none (inr e) more =
-        let done = e.2 in
-        let kept = kept_at_end (course_at by_parts d input) (course_at by_history u input) bytes e.0 (alike_course d u input b h) done.stored in
-        later_left g (deed_of (record { state = seated u; input = input })) deeds
-        (more e.1 (bytes_over ((course_at by_parts d input).state).state) (sym (stored_at g l bytes d u input at short stands b h r kept.0)) kept.2 kept.3
-        (subst (λ (file : Option (Option (List ℕ))). EndsOn x ds n file (Some now) e.1 new) kept.1 e.3))
+    at_stretch : (l : Life) (action : Action) (bytes : List ℕ) (d : Sitting Seen) (f : Sitting State) (input : List ℕ) (old : Option (List ℕ)) (ds : List Due) (others : List Action) → (h : Stands l action bytes d f input)
+        → (ds ≡ [] → others ≡ []) → EndsOn (due_of (course_at by_parts d input)) ds n (Some (Some bytes)) (Some now) old new
+        → ((mid : Option (List ℕ)) → Stands (next l action) (Resumes (rest_here l action bytes d f input h)) (stored_here l action bytes d f input h) (resumed by_parts (course_at by_parts d input).state) (resumed by_history (course_at by_history f input).state) (rest_here l action bytes d f input h)
+        → Ends ds n (Some (Some (stored_here l action bytes d f input h))) (Some now) mid new → IsLeftOf n (next l action) others now) → IsLeftOf n l (action ∷ others) now
+    at_stretch l action bytes d f input old [] others h none e more = in_stretch l action bytes d f input old others h (λ z. none refl) e
+    at_stretch l action bytes d f input old (x ∷ ds) others h none (inl e) more = in_stretch l action bytes d f input old others h (λ z. absurd (e.0 z)) e.1
+    at_stretch l action bytes d f input old (x ∷ ds) others h none (inr e) more =
+        let q = kept_at_end l action bytes d f input h e.0 (e.2).stored in
+        let left = more e.1 (stands_then l action bytes d f input h q.0 q.2 q.3) (subst (λ (file : Option (Option (List ℕ))). EndsOn x ds n file (Some now) e.1 new) q.1 e.3) in
+        record { all = left.all; some = (suc (left.some).0, (left.some).1) }
 
     -- from stretch to stretch
-    ends_within : (m : ℕ) (g : Group) (l : i < length g.files) (bytes : List ℕ) (d : Sitting Seen) (u : Sitting State) (input : List ℕ) (old : Option (List ℕ)) → file_at g i ≡ Some bytes → length bytes ≤ FILE_BYTES → IsFileFor bytes u.state → IsBytes input → IsAlike d u → IsRecent u
-        → Ends (map due_of (map (closed by_parts) (map (course_of (respond by_parts)) (stretches_within (respond by_parts) (resumed_seat by_parts) m (seated d) input)))) n (Some (Some bytes)) (Some now) old new
-        → IsLeftOf n g (deeds_of (stretches_within (respond by_history) (resumed_seat by_history) m (seated u) input)) now
-    unfolding mine theirs
-    ends_within zero g l bytes d u input old at short stands b h r e = absurd e
-    ends_within (suc m) g l bytes d u input old at short stands b h r e =
-        let same = alike_course d u input b h in
-        subst (λ (k : ℕ). IsLeftOf n g (deed_of (record { state = seated u; input = input }) ∷ theirs m u input (course_at by_history u input).stores k) now) same.used
-        (subst (λ (x : Bool). IsLeftOf n g (deed_of (record { state = seated u; input = input }) ∷ theirs m u input x (course_at by_parts d input).used) now) same.stores
-        (at_stretch g l bytes d u input old (mine m d input (course_at by_parts d input).stores) (theirs m u input (course_at by_parts d input).stores (course_at by_parts d input).used) at short stands b h r
-        (none_both m d u input (course_at by_parts d input).stores (course_at by_parts d input).used) e
-        (λ mid stored there few files ends. on (course_at by_parts d input).stores mid stored there few files ends
-        (λ ends. ends_within m (after_run true g i (deed_of (record { state = seated u; input = input }))) (there_still g l (deed_of (record { state = seated u; input = input }))) stored (resumed by_parts (course_at by_parts d input).state) (resumed by_history (course_at by_history u input).state) (drop (suc (course_at by_parts d input).used) input) mid there few files
-        (IsBytes-drop (suc (course_at by_parts d input).used) input b) (resumed_alike _ _ same.states) (recent (course_at by_history u input).state) ends))))
+    ends_within : (m : ℕ) (l : Life) (action : Action) (bytes : List ℕ) (d : Sitting Seen) (f : Sitting State) (input : List ℕ) (old : Option (List ℕ)) → Stands l action bytes d f input
+        → Ends (map due_of (map (closed by_parts) (map (course_of (respond by_parts)) (stretches_within (respond by_parts) (resumed_seat by_parts) m (seated d) input)))) n (Some (Some bytes)) (Some now) old new → IsLeftOf n l (acts m action input) now
+    unfolding mine
+    ends_within zero l action bytes d f input old h e = absurd e
+    ends_within (suc m) l action bytes d f input old h e =
+        let far = as_far d input in
+        let c = course_at by_parts d input in
+        subst (λ (k : ℕ). IsLeftOf n l (action ∷ theirs m input (course unanswered tt input).stores k) now) far.used
+        (subst (λ (x : Bool). IsLeftOf n l (action ∷ theirs m input x c.used) now) far.stores
+        (at_stretch l action bytes d f input old (mine m d input c.stores) (theirs m input c.stores c.used) h (none_both m d input c.stores c.used) e
+        (λ mid there ends. on c.stores mid ends (λ ends. subst (λ (xs : List Action). IsLeftOf n (next l action) xs now) (sym (goes_on m input c.used))
+        (ends_within m (next l action) (Resumes (drop (suc c.used) input)) (bytes_over (c.state).state) (resumed by_parts c.state) (resumed by_history (course_at by_history f input).state) (drop (suc c.used) input) mid there ends)))))
       where
-        on : (x : Bool) (mid : Option (List ℕ)) (stored : List ℕ) → file_at (after_run true g i (deed_of (record { state = seated u; input = input }))) i ≡ Some stored → length stored ≤ FILE_BYTES → IsFileFor stored ((course_at by_history u input).state).state
-            → Ends (mine m d input x) n (Some (Some stored)) (Some now) mid new → (Ends (mine m d input true) n (Some (Some stored)) (Some now) mid new → IsLeftOf n (after_run true g i (deed_of (record { state = seated u; input = input }))) (theirs m u input true (course_at by_parts d input).used) now)
-            → IsLeftOf n (after_run true g i (deed_of (record { state = seated u; input = input }))) (theirs m u input x (course_at by_parts d input).used) now
-        on false mid stored there few files ends f = absurd ends
-        on true mid stored there few files ends f = f ends
+        on : (x : Bool) (mid : Option (List ℕ)) → Ends (mine m d input x) n (Some (Some (bytes_over ((course_at by_parts d input).state).state))) (Some now) mid new
+            → (Ends (mine m d input true) n (Some (Some (bytes_over ((course_at by_parts d input).state).state))) (Some now) mid new → IsLeftOf n (next l action) (theirs m input true (course_at by_parts d input).used) now)
+            → IsLeftOf n (next l action) (theirs m input x (course_at by_parts d input).used) now
+        on false mid ends more = absurd ends
+        on true mid ends more = more ends
 
   -- ---- a stop
 
-  -- what is stored after a course
-  file_stored : (c : Course (Sitting Seen)) (f : Course (Sitting State)) (bytes : List ℕ) → IsSameCourse IsAlike c f → IsFileOf (due_of c).ending bytes → ((due_of c).ending ≡ Ok (c.state).state) × (Some bytes ≡ Some (bytes_over (c.state).state)) × (length bytes ≤ FILE_BYTES) × IsFileFor bytes (f.state).state
-  file_stored c f bytes same h = go (ends_so c)
-    where
-      go : EndsSo c → ((due_of c).ending ≡ Ok (c.state).state) × (Some bytes ≡ Some (bytes_over (c.state).state)) × (length bytes ≤ FILE_BYTES) × IsFileFor bytes (f.state).state
-      go (inl e) =
-          let here = subst (λ (x : Result Seen CommandError). IsFileOf x bytes) e.0 h in
-          (e.0, ap (λ (x : List ℕ). Some x) here.0, subst (λ (x : List ℕ). length x ≤ FILE_BYTES) (sym here.0) e.1, subst (λ (x : List ℕ). IsFileFor x (f.state).state) (sym here.0) (stands_stored (c.state).state (f.state).state (same.states).stands here.1))
-      go (inr e) = absurd (subst (λ (x : Result Seen CommandError). IsFileOf x bytes) e.0 h)
-
-  module _ {D : Type 0} (moment : D → ℕ) (left_since : D → ℕ → Areas → Type 0) (stores_so : List ℕ → Bool → D → D → Type 0) where
+  module _ {D : Type 0} (moment : D → ℕ) (left_since : D → ℕ → Areas → Type 0) (stores_so : List ℕ → Bool → D → D → Type 0) (first : Life) (there : i < length (first.group).files) where
     abbrev InTurn : Option (List ℕ) → List (List ℕ) → Option (List ℕ) → D → D → Type 0
     InTurn = LeavesInTurn moment left_since stores_so
 
-    -- the store of a deed, which is done or isn't
-    in_deed : (g : Group) (deed : Deed) (bytes : List ℕ) (ok : Bool) (now : Option (List ℕ)) (old new : D) → now ≡ file_at g i → Some bytes ≡ file_at (after_run true g i deed) i → LeavesInStore moment left_since stores_so now bytes ok old new → LeavesOnly moment left_since old new (λ c. IsLeft g i deed (kept c))
-    in_deed g deed bytes ok now old new at is h =
-        leaves_both moment left_since old h.called new (λ c. IsLeft g i deed (kept c)) (leaves_weaker moment left_since old h.called (IsOld now) (λ c. IsLeft g i deed (kept c)) (λ c p. (false, p ∙ at)) h.until)
-        (leaves_weaker moment left_since h.called new (IsOldOrNew now bytes) (λ c. IsLeft g i deed (kept c)) (λ c p. ⊎_elim (λ q. (false, q ∙ at)) (λ q. (true, q ∙ is)) p) h.within)
+    abbrev Leaves : List Action → List Action → D → D → Type 0
+    Leaves before actions old new = LeavesActions moment left_since first i before actions old new
+
+    -- the life that the first of these runs led to
+    abbrev IsNow : List Action → Life → Type 0
+    IsNow before l = all_done i first before ≡ l
+
+    now_then : (before : List Action) (l : Life) (action : Action) → IsNow before l → IsNow (before ++ action ∷ []) (next l action)
+    now_then before l action e = all_done_more i first before action ∙ ap (λ (k : Life). next k action) e
+
+    is_file : (before : List Action) (l : Life) (now : Option (List ℕ)) → IsNow before l → now ≡ file_at l.group i → IsFileAfter first i before now
+    is_file before l now e at = file_after i first before now there (at ∙ ap (λ (k : Life). file_at k.group i) (sym e))
+
+    -- the store of a run, which is done or isn't
+    in_run : (before : List Action) (l : Life) (action : Action) (bytes : List ℕ) (ok : Bool) (now : Option (List ℕ)) (old new : D) → IsNow before l → now ≡ file_at l.group i → Some bytes ≡ file_at (next l action).group i → LeavesInStore moment left_since stores_so now bytes ok old new
+        → LeavesOnly moment left_since old new (λ c. IsLeft first i before action (kept c))
+    in_run before l action bytes ok now old new e at is h =
+        leaves_both moment left_since old h.called new (λ c. IsLeft first i before action (kept c))
+        (leaves_weaker moment left_since old h.called (IsOld now) (λ c. IsLeft first i before action (kept c)) (λ c p. inl (is_file before l (kept c) e (p ∙ at))) h.until)
+        (leaves_weaker moment left_since h.called new (IsOldOrNew now bytes) (λ c. IsLeft first i before action (kept c))
+        (λ c p. ⊎_elim (λ q. inl (is_file before l (kept c) e (q ∙ at))) (λ q. inr (is_file (before ++ action ∷ []) (next l action) (kept c) (now_then before l action e) (q ∙ is))) p) h.within)
 
     -- no file is called for
-    none_more : (g : Group) (now : Option (List ℕ)) (files : List (List ℕ)) (failed : Option (List ℕ)) (old new : D) → now ≡ file_at g i → AreFilesOf [] (files ++ and_failed failed) → InTurn now files failed old new → LeavesOnly moment left_since old new (λ c. kept c ≡ file_at g i)
-    none_more g now [] None old new at a h = leaves_weaker moment left_since old new (IsOld now) (λ c. kept c ≡ file_at g i) (λ c p. p ∙ at) h
-    none_more g now [] (Some bytes) old new at a h = absurd a
-    none_more g now (bytes ∷ files) failed old new at a h = absurd a
+    none_more : (before : List Action) (l : Life) (now : Option (List ℕ)) (files : List (List ℕ)) (failed : Option (List ℕ)) (old new : D) → IsNow before l → now ≡ file_at l.group i → AreFilesOf [] (files ++ and_failed failed) → InTurn now files failed old new → Leaves before [] old new
+    none_more before l now [] None old new e at a h = leaves_weaker moment left_since old new (IsOld now) (λ c. IsFileAfter first i before (kept c)) (λ c p. is_file before l (kept c) e (p ∙ at)) h
+    none_more before l now [] (Some bytes) old new e at a h = absurd a
+    none_more before l now (bytes ∷ files) failed old new e at a h = absurd a
 
     -- it came no further than this stretch, or stored and went on
-    at_stop : (g : Group) (l : i < length g.files) (bytes : List ℕ) (d : Sitting Seen) (u : Sitting State) (input : List ℕ) (ds : List Due) (deeds : List Deed) (files : List (List ℕ)) (failed : Option (List ℕ)) (old new : D) → file_at g i ≡ Some bytes → length bytes ≤ FILE_BYTES → IsFileFor bytes u.state → IsBytes input
-        → IsAlike d u → IsRecent u → AreFilesOf (due_of (course_at by_parts d input) ∷ ds) (files ++ and_failed failed) → InTurn (Some bytes) files failed old new
-        → ((stored : List ℕ) (others : List (List ℕ)) (mid : D) → file_at (after_run true g i (deed_of (record { state = seated u; input = input }))) i ≡ Some stored → length stored ≤ FILE_BYTES → IsFileFor stored ((course_at by_history u input).state).state → AreFilesOf ds (others ++ and_failed failed)
-        → InTurn (Some stored) others failed mid new → LeavesDeeds moment left_since (after_run true g i (deed_of (record { state = seated u; input = input }))) i deeds mid new) → LeavesDeeds moment left_since g i (deed_of (record { state = seated u; input = input }) ∷ deeds) old new
-    at_stop g l bytes d u input ds deeds [] None old new at short stands b h r a left more = inl (leaves_weaker moment left_since old new (IsOld (Some bytes)) _ (λ c p. (false, p ∙ sym at)) left)
-    at_stop g l bytes d u input ds deeds [] (Some x) old new at short stands b h r a left more =
-        let k = file_stored (course_at by_parts d input) (course_at by_history u input) x (alike_course d u input b h) a.0 in
-        inl (in_deed g (deed_of (record { state = seated u; input = input })) x false (Some bytes) old new (sym at) (k.1 ∙ stored_at g l bytes d u input at short stands b h r k.0) left)
-    at_stop g l bytes d u input ds deeds (x ∷ files) failed old new at short stands b h r a left more =
-        let k = file_stored (course_at by_parts d input) (course_at by_history u input) x (alike_course d u input b h) a.0 in
-        let there = k.1 ∙ stored_at g l bytes d u input at short stands b h r k.0 in
-        inr (left.0, in_deed g (deed_of (record { state = seated u; input = input })) x true (Some bytes) old left.0 (sym at) there left.1, more x files left.0 (sym there) k.2 k.3 a.1 left.2)
+    at_stop : (before : List Action) (l : Life) (action : Action) (bytes : List ℕ) (d : Sitting Seen) (f : Sitting State) (input : List ℕ) (ds : List Due) (others : List Action) (files : List (List ℕ)) (failed : Option (List ℕ)) (old new : D) → IsNow before l → (h : Stands l action bytes d f input)
+        → AreFilesOf (due_of (course_at by_parts d input) ∷ ds) (files ++ and_failed failed) → InTurn (Some bytes) files failed old new
+        → ((more : List (List ℕ)) (mid : D) → Stands (next l action) (Resumes (rest_here l action bytes d f input h)) (stored_here l action bytes d f input h) (resumed by_parts (course_at by_parts d input).state) (resumed by_history (course_at by_history f input).state) (rest_here l action bytes d f input h)
+        → AreFilesOf ds (more ++ and_failed failed) → InTurn (Some (stored_here l action bytes d f input h)) more failed mid new → Leaves (before ++ action ∷ []) others mid new) → Leaves before (action ∷ others) old new
+    at_stop before l action bytes d f input ds others [] None old new e h a left more = inl (leaves_weaker moment left_since old new (IsOld (Some bytes)) _ (λ c p. inl (is_file before l (kept c) e (p ∙ sym h.at))) left)
+    at_stop before l action bytes d f input ds others [] (Some x) old new e h a left more =
+        let k = file_stored l action bytes d f input h x a.0 in
+        inl (in_run before l action x false (Some bytes) old new e (sym h.at) (ap (λ (b : List ℕ). Some b) k.1 ∙ stored_at l action bytes d f input h k.0) left)
+    at_stop before l action bytes d f input ds others (x ∷ files) failed old new e h a left more =
+        let k = file_stored l action bytes d f input h x a.0 in
+        let after = stored_at l action bytes d f input h k.0 in
+        inr (
+          left.0,
+          in_run before l action x true (Some bytes) old left.0 e (sym h.at) (ap (λ (b : List ℕ). Some b) k.1 ∙ after) left.1,
+          more files left.0 (stands_then l action bytes d f input h k.0 k.2 k.3) a.1 (subst (λ (b : List ℕ). InTurn (Some b) files failed left.0 new) k.1 left.2),
+        )
 
     -- from stretch to stretch
-    stops_within : (m : ℕ) (g : Group) (l : i < length g.files) (bytes : List ℕ) (d : Sitting Seen) (u : Sitting State) (input : List ℕ) (files : List (List ℕ)) (failed : Option (List ℕ)) (old new : D) → file_at g i ≡ Some bytes → length bytes ≤ FILE_BYTES → IsFileFor bytes u.state → IsBytes input → IsAlike d u → IsRecent u
+    stops_within : (m : ℕ) (before : List Action) (l : Life) (action : Action) (bytes : List ℕ) (d : Sitting Seen) (f : Sitting State) (input : List ℕ) (files : List (List ℕ)) (failed : Option (List ℕ)) (old new : D) → IsNow before l → Stands l action bytes d f input
         → AreFilesOf (map due_of (map (closed by_parts) (map (course_of (respond by_parts)) (stretches_within (respond by_parts) (resumed_seat by_parts) m (seated d) input)))) (files ++ and_failed failed) → InTurn (Some bytes) files failed old new
-        → LeavesDeeds moment left_since g i (deeds_of (stretches_within (respond by_history) (resumed_seat by_history) m (seated u) input)) old new
+        → Leaves before (acts m action input) old new
     unfolding mine theirs
-    stops_within zero g l bytes d u input files failed old new at short stands b h r a left = none_more g (Some bytes) files failed old new (sym at) a left
-    stops_within (suc m) g l bytes d u input files failed old new at short stands b h r a left =
-        let same = alike_course d u input b h in
-        subst (λ (k : ℕ). LeavesDeeds moment left_since g i (deed_of (record { state = seated u; input = input }) ∷ theirs m u input (course_at by_history u input).stores k) old new) same.used
-        (subst (λ (x : Bool). LeavesDeeds moment left_since g i (deed_of (record { state = seated u; input = input }) ∷ theirs m u input x (course_at by_parts d input).used) old new) same.stores
-        (at_stop g l bytes d u input (mine m d input (course_at by_parts d input).stores) (theirs m u input (course_at by_parts d input).stores (course_at by_parts d input).used) files failed old new at short stands b h r a left
-        (λ stored others mid there few file asked rest. on (course_at by_parts d input).stores stored others mid there asked rest
-        (λ asked. stops_within m (after_run true g i (deed_of (record { state = seated u; input = input }))) (there_still g l (deed_of (record { state = seated u; input = input }))) stored (resumed by_parts (course_at by_parts d input).state) (resumed by_history (course_at by_history u input).state) (drop (suc (course_at by_parts d input).used) input) others failed mid new there few file
-        (IsBytes-drop (suc (course_at by_parts d input).used) input b) (resumed_alike _ _ same.states) (recent (course_at by_history u input).state) asked rest))))
+    stops_within zero before l action bytes d f input files failed old new e h a left = none_more before l (Some bytes) files failed old new e (sym h.at) a left
+    stops_within (suc m) before l action bytes d f input files failed old new e h a left =
+        let far = as_far d input in
+        let c = course_at by_parts d input in
+        subst (λ (k : ℕ). Leaves before (action ∷ theirs m input (course unanswered tt input).stores k) old new) far.used
+        (subst (λ (x : Bool). Leaves before (action ∷ theirs m input x c.used) old new) far.stores
+        (at_stop before l action bytes d f input (mine m d input c.stores) (theirs m input c.stores c.used) files failed old new e h a left
+        (λ others mid there asked rest. on c.stores others mid there asked rest
+        (λ asked. subst (λ (xs : List Action). Leaves (before ++ action ∷ []) xs mid new) (sym (goes_on m input c.used))
+        (stops_within m (before ++ action ∷ []) (next l action) (Resumes (drop (suc c.used) input)) (bytes_over (c.state).state) (resumed by_parts c.state) (resumed by_history (course_at by_history f input).state) (drop (suc c.used) input) others failed mid new (now_then before l action e) there asked rest)))))
       where
-        on : (x : Bool) (stored : List ℕ) (others : List (List ℕ)) (mid : D) → file_at (after_run true g i (deed_of (record { state = seated u; input = input }))) i ≡ Some stored → AreFilesOf (mine m d input x) (others ++ and_failed failed) → InTurn (Some stored) others failed mid new
-            → (AreFilesOf (mine m d input true) (others ++ and_failed failed) → LeavesDeeds moment left_since (after_run true g i (deed_of (record { state = seated u; input = input }))) i (theirs m u input true (course_at by_parts d input).used) mid new)
-            → LeavesDeeds moment left_since (after_run true g i (deed_of (record { state = seated u; input = input }))) i (theirs m u input x (course_at by_parts d input).used) mid new
-        on false stored others mid there asked rest f = none_more (after_run true g i (deed_of (record { state = seated u; input = input }))) (Some stored) others failed mid new (sym there) asked rest
-        on true stored others mid there asked rest f = f asked
+        on : (x : Bool) (others : List (List ℕ)) (mid : D) → Stands (next l action) (Resumes (rest_here l action bytes d f input h)) (stored_here l action bytes d f input h) (resumed by_parts (course_at by_parts d input).state) (resumed by_history (course_at by_history f input).state) (rest_here l action bytes d f input h)
+            → AreFilesOf (mine m d input x) (others ++ and_failed failed) → InTurn (Some (stored_here l action bytes d f input h)) others failed mid new
+            → (AreFilesOf (mine m d input true) (others ++ and_failed failed) → Leaves (before ++ action ∷ []) (theirs m input true (course_at by_parts d input).used) mid new)
+            → Leaves (before ++ action ∷ []) (theirs m input x (course_at by_parts d input).used) mid new
+        on false others mid there asked rest more = none_more (before ++ action ∷ []) (next l action) (Some (stored_here l action bytes d f input h)) others failed mid new (now_then before l action e) (sym there.at) asked rest
+        on true others mid there asked rest more = more asked
+
+  -- ---- from the beginning
+
+  abbrev first_stands : Life → List ℕ → State → List ℕ → Seen → Type 0
+  first_stands l bytes t input s = Stands l (Begins input) bytes (sitting_at s) (sitting_at t) input
+
+  stands_first : (l : Life) (bytes : List ℕ) (t : State) (input : List ℕ) (o : (s : Seen) × IsOpened bytes t s) → i < length (l.group).files → file_at l.group i ≡ Some bytes → length bytes ≤ FILE_BYTES → IsFileFor bytes t → IsBytes input → first_stands l bytes t input o.0
+  stands_first l bytes t input o m at short for b =
+      let w = well_empty t in
+      let k = usable_alike bytes o.0 t empty_desk o.1 (well_usable o.0 t empty_desk o.1.stands w) in
+      record {
+        member = m;
+        at = at;
+        short = short;
+        for = for;
+        given = b;
+        alike = record { stands = k.stands; sane = k.sane; writable = k.writable; entries = refl; cursors = refl; tells = refl; whole = k.whole; texts = k.texts; steps = k.steps };
+        well = w;
+        does = refl;
+      }
+
+-- all that a session does
+acts_all : (input : List ℕ) → acts (suc (length input)) (Begins input) input ≡ actions_over input
+unfolding theirs stretches
+acts_all input = refl
+
+-- the file that is left then
+abbrev IsLeftBy : ℕ → Life → ℕ → List Action → Option (List ℕ) → Type 0
+IsLeftBy n l i actions now = (n ≡ 0 → IsFileAfter l i actions now) × ((k : ℕ) × IsFileAfter l i (take k actions) now)
 
 -- a session over a member's file that stands for a history
 pub stores_leave : {K : Type 0} (S W : Type 0) (load : K → Bool → K → Type 0) (store : K → List ℕ → Bool → K → Type 0) → StoresLeave S W load store
 unfolding stretches
-stores_leave S W load store g i input n now t bytes keeper_old keeper_new input_old input_new output_old output_new old new l at stands b h before given after = go (within_or_past FILE_BYTES (length bytes))
+stores_leave S W load store l i input n now t bytes keeper_old keeper_new input_old input_new output_old output_new old new m at stands b h before given after = go (within_or_past FILE_BYTES (length bytes))
   where
     told : IfSome (due (Some (Some bytes)) (Some input)) (λ ds. Ends ds n (Some (Some bytes)) (Some now) old.told new.told)
     told = subst (λ (f : Option (Option (List ℕ))). IfSome (due (Some (Some bytes)) (Some input)) (λ ds. Ends ds n (Some (Some bytes)) f old.told new.told)) after
@@ -383,8 +384,8 @@ stores_leave S W load store g i input n now t bytes keeper_old keeper_new input_
         (subst (λ (f : Option (Option (List ℕ))). IfSome (due f old.left) (λ ds. Ends ds n f new.file old.told new.told)) (before ∙ ap (λ (k : Option (List ℕ)). Some k) at) h.ends))
 
     -- the file is too long
-    unread : EndsIn (stops TooLarge) n (Some (Some bytes)) (Some now) old.told new.told → (n ≡ 0 → now ≡ file_at (after_deeds g i (deeds_from t input)) i) × ((k : ℕ) × (now ≡ file_at (after_deeds g i (take k (deeds_from t input))) i))
-    unread e = (λ z. absurd (e.stored z), (0, stays (eqb_tells n 9) ∙ sym at))
+    unread : EndsIn (stops TooLarge) n (Some (Some bytes)) (Some now) old.told new.told → IsLeftBy n l i (actions_over input) now
+    unread e = (λ z. absurd (e.stored z), (0, file_after i l [] now m (stays (eqb_tells n 9) ∙ sym at)))
       where
         stays : ((eqb n 9 ≡ true) × (n ≡ 9)) ⊎ ((eqb n 9 ≡ false) × (n ≢ 9)) → now ≡ Some bytes
         stays (inl z) = nine (e.failing z.1)
@@ -394,14 +395,14 @@ stores_leave S W load store g i input n now t bytes keeper_old keeper_new input_
             nine (inr k) = absurd k.0
         stays (inr z) = e.stays (λ zero. e.stored zero) z.1
 
-    go : WithinOrPast FILE_BYTES (length bytes) → (n ≡ 0 → now ≡ file_at (after_deeds g i (deeds_from t input)) i) × ((k : ℕ) × (now ≡ file_at (after_deeds g i (take k (deeds_from t input))) i))
+    go : WithinOrPast FILE_BYTES (length bytes) → IsLeftBy n l i (actions_over input) now
     go (inl few) =
         let o = opened bytes t stands in
         let found : replica_in (loaded (Some bytes)) ≡ Ok o.0 = opened_at bytes o.0 few.0 o.1.found in
-        let left = ends_within i n now new.told (suc (length input)) g l bytes (sitting_at o.0) (sitting_at t) input old.told at few.0 stands b
-        (record { stands = o.1.stands; sane = o.1.sane; writable = o.1.writable; entries = refl; cursors = refl; tells = refl; whole = record { undoable = tt; anchored = tt }; texts = tt; steps = record { same = refl; kept = tt; spelled = (tt, tt) } }) (record { entries = tt; cursors = tt; named = tt })
+        let left = ends_within i n now new.told (suc (length input)) l (Begins input) bytes (sitting_at o.0) (sitting_at t) input old.told (stands_first i l bytes t input o m at few.0 stands b)
         (subst (λ (r : Result Seen CommandError). IfSome (due_on (Some r) (Some input)) (λ ds. Ends ds n (Some (Some bytes)) (Some now) old.told new.told)) found told) in
-        (left.all, left.some)
+        let all = subst (λ (xs : List Action). IsLeftOf i n l xs now) (acts_all input) left in
+        (λ z. file_after i l (actions_over input) now m (all.all z), ((all.some).0, file_after i l (take (all.some).0 (actions_over input)) now m (all.some).1))
     go (inr long) =
         let large : replica_in (loaded (Some bytes)) ≡ Err TooLarge = rw (long.1) refl in
         unread (subst (λ (r : Result Seen CommandError). IfSome (due_on (Some r) (Some input)) (λ ds. Ends ds n (Some (Some bytes)) (Some now) old.told new.told)) large told)
@@ -409,7 +410,7 @@ stores_leave S W load store g i input n now t bytes keeper_old keeper_new input_
 -- and what a stop of it leaves
 pub stopped_stores : {D : Type 0} (moment : D → ℕ) (left_since : D → ℕ → Areas → Type 0) (stores_so : List ℕ → Bool → D → D → Type 0) → StoppedStores moment left_since stores_so
 unfolding stretches
-stopped_stores {D} moment left_since stores_so g i input t bytes old new l at stands b k = go (within_or_past FILE_BYTES (length bytes))
+stopped_stores {D} moment left_since stores_so l i input t bytes old new m at stands b k = go (within_or_past FILE_BYTES (length bytes))
   where
     files : List (List ℕ)
     files = (k.files).stored
@@ -424,18 +425,17 @@ stopped_stores {D} moment left_since stores_so g i input t bytes old new l at st
     turns = subst (λ (f : Option (List ℕ)). LeavesInTurn moment left_since stores_so f files failed old new) at k.in_turn
 
     -- the file is too long
-    unread : (done : List (List ℕ)) (last : Option (List ℕ)) → AreFilesOf (stops TooLarge ∷ []) (done ++ and_failed last) → LeavesInTurn moment left_since stores_so (Some bytes) done last old new → LeavesDeeds moment left_since g i (deeds_from t input) old new
-    unread [] None a h = inl (leaves_weaker moment left_since old new (IsOld (Some bytes)) _ (λ c p. (false, p ∙ sym at)) h)
-    unread [] (Some x) a h = absurd a.0
-    unread (x ∷ done) last a h = absurd a.0
+    unread : (tried : List (List ℕ)) (last : Option (List ℕ)) (action : Action) (others : List Action) → AreFilesOf (stops TooLarge ∷ []) (tried ++ and_failed last) → LeavesInTurn moment left_since stores_so (Some bytes) tried last old new → LeavesActions moment left_since l i [] (action ∷ others) old new
+    unread [] None action others a h = inl (leaves_weaker moment left_since old new (IsOld (Some bytes)) _ (λ c p. inl (file_after i l [] (kept c) m (p ∙ sym at))) h)
+    unread [] (Some x) action others a h = absurd a.0
+    unread (x ∷ tried) last action others a h = absurd a.0
 
-    go : WithinOrPast FILE_BYTES (length bytes) → LeavesDeeds moment left_since g i (deeds_from t input) old new
+    go : WithinOrPast FILE_BYTES (length bytes) → LeavesActions moment left_since l i [] (actions_over input) old new
     go (inl few) =
         let o = opened bytes t stands in
         let found : replica_in (loaded (Some bytes)) ≡ Ok o.0 = opened_at bytes o.0 few.0 o.1.found in
-        stops_within i moment left_since stores_so (suc (length input)) g l bytes (sitting_at o.0) (sitting_at t) input files failed old new at few.0 stands b
-        (record { stands = o.1.stands; sane = o.1.sane; writable = o.1.writable; entries = refl; cursors = refl; tells = refl; whole = record { undoable = tt; anchored = tt }; texts = tt; steps = record { same = refl; kept = tt; spelled = (tt, tt) } }) (record { entries = tt; cursors = tt; named = tt })
-        (subst (λ (r : Result Seen CommandError). AreDue (due_on (Some r) (Some input)) (files ++ and_failed failed)) found due_so) turns
+        subst (λ (xs : List Action). LeavesActions moment left_since l i [] xs old new) (acts_all input) (stops_within i moment left_since stores_so l m (suc (length input)) [] l (Begins input) bytes (sitting_at o.0) (sitting_at t) input files failed old new refl (stands_first i l bytes t input o m at few.0 stands b)
+        (subst (λ (r : Result Seen CommandError). AreDue (due_on (Some r) (Some input)) (files ++ and_failed failed)) found due_so) turns)
     go (inr long) =
         let large : replica_in (loaded (Some bytes)) ≡ Err TooLarge = rw (long.1) refl in
-        unread files failed (subst (λ (r : Result Seen CommandError). AreDue (due_on (Some r) (Some input)) (files ++ and_failed failed)) large due_so) turns
+        subst (λ (xs : List Action). LeavesActions moment left_since l i [] xs old new) (acts_all input) (unread files failed (Begins input) _ (subst (λ (r : Result Seen CommandError). AreDue (due_on (Some r) (Some input)) (files ++ and_failed failed)) large due_so) turns)

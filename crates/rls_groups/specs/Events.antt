@@ -1,5 +1,5 @@
--- What one run of the program leaves in a group: a command, or a session up to a store.
-use Rattle.std.specs.Prelude.{◌≡◌, ◌<◌, ◌-◌, ℕ, zero, suc, Bool, true, false, List, [], ◌∷◌, ◌++◌, length, nat_lt, slice_get, Option, Some, None, Result, Ok, Err, IfOk, if◌then◌else◌}
+-- What one run of the program leaves in a group: a command, or a session from store to store.
+use Rattle.std.specs.Prelude.{◌≡◌, ◌<◌, ◌-◌, ℕ, zero, suc, Bool, true, false, List, [], ◌∷◌, ◌++◌, length, nat_lt, slice_get, Option, Some, None, Result, Ok, Err, IfOk, IsTrue, if◌then◌else◌}
 use Rattle.rls_ident.specs.Lists.{IsIn}
 use Rattle.rls_ops.specs.Spelling.{message_bytes}
 use Rattle.rls_codec.specs.CodecLaws.{IsBytes}
@@ -20,7 +20,7 @@ use Rattle.rls_top.specs.Words.{command_of}
 use Rattle.rls_session.specs.declared.orders.Order.TheVariants as orders
 use Rattle.rls_session.specs.declared.orders.Order.TheVariants.{Quit, Store}
 use Rattle.rls_session.specs.declared.cursors.Cursor.{Cursor}
-use Rattle.rls_session.specs.Answers.{Kind, Sitting}
+use Rattle.rls_session.specs.Answers.{Kind, Sitting, resumed}
 use Rattle.rls_session.specs.Courses.{Answered, Course, holds}
 use Rattle.rls_session.specs.Desks.{AreKept, IsWhole}
 use Rattle.rls_session.specs.Due as session
@@ -46,6 +46,9 @@ empty_desk = record { entries = []; cursors = []; recorded = unused; tells = fal
 abbrev pub at_desk : {X : Type 0} → X → Desk → Sitting X
 at_desk s desk = record { state = s; entries = desk.entries; cursors = desk.cursors; recorded = desk.recorded; tells = desk.tells }
 
+abbrev pub desk_of : {X : Type 0} → Sitting X → Desk
+desk_of d = record { entries = d.entries; cursors = d.cursors; recorded = d.recorded; tells = d.tells }
+
 -- the session from this state and desk over this input, up to its next store, before which its draft is made
 abbrev pub session_at : {X : Type 0} → Kind X → X → Desk → List ℕ → Course (Sitting X)
 session_at K s desk input = course_at K (at_desk s desk) input
@@ -58,6 +61,15 @@ replica_at g i = replica_in (loaded (slice_get g.files i))
 abbrev pub due_on : Result Seen CommandError → Desk → List ℕ → session.Due
 due_on (Ok s) desk input = due_of_course (session_at by_parts s desk input)
 due_on (Err e) desk input = stops e
+
+-- what it works on after its next store, if it comes to one: without what every member has
+abbrev pub desk_by : Result Seen CommandError → Sitting Seen → Desk
+desk_by (Ok s) d = desk_of (resumed by_parts d)
+desk_by (Err e) d = empty_desk
+
+abbrev pub desk_on : Result Seen CommandError → Desk → List ℕ → Desk
+desk_on (Ok s) desk input = let c = session_at by_parts s desk input in desk_by (due_of_course c).ending c.state
+desk_on (Err e) desk input = empty_desk
 
 -- what it calls for over the member's file
 abbrev pub session_due : Group → ℕ → Desk → List ℕ → session.Due
@@ -109,6 +121,7 @@ replied_at s desk input = gathered_from (respond by_parts) replied_from 0 (seate
 
 -- ---- what a run does
 
+-- with what a session works on
 pub data Deed : Type 0 where
   -- a command, by its words and its input
   Commands : (words : List (List ℕ)) → (input : List ℕ) → Deed
@@ -145,26 +158,39 @@ abbrev pub written_by : Group → ℕ → Deed → List (List ℕ)
 written_by g i (Commands words input) = printed_of (command_of words) (due_of g i words input)
 written_by g i (Sits desk input) = saved_with (session_due g i desk input).ending (replied_on (replica_at g i) desk input)
 
--- ---- events
+-- what the member's session works on from then on. After a command there is no session
+abbrev pub desk_after : Group → ℕ → Deed → Desk
+desk_after g i (Commands words input) = empty_desk
+desk_after g i (Sits desk input) = desk_on (replica_at g i) desk input
 
--- A member's run over its own file. It is done if what it is to store was stored, and what a `send` is to print was printed. Else it left
--- the file as it was: a device failed, memory ran out, or the machine stopped before. A session is done as soon as its file is stored, so
--- it stands where that happens; until then its file belongs to it alone.
-pub record Event : Type 0 where
-  pub member : ℕ
-  pub deed : Deed
-  pub done : Bool
-
+-- the group after it, if it is done
 abbrev pub after_run : Bool → Group → ℕ → Deed → Group
 after_run false g i deed = g
 after_run true g i deed = record { files = files_with g.files i (stored_by g i deed); written = g.written ++ written_by g i deed }
 
-abbrev pub after_event : Group → Event → Group
-after_event g e = after_run e.done g e.member e.deed
+-- ---- events
 
-abbrev pub after_events : Group → List Event → Group
-after_events g [] = g
-after_events g (e ∷ es) = after_events (after_event g e) es
+-- What a member does: it performs a command, by its words and its input; or begins a session, by its input up to its first store, or to where
+-- it ends, be that at any byte; or its session, which has stored, goes on over its input up to its next store, or to where it ends.
+pub data Action : Type 0 where
+  Performs : (words : List (List ℕ)) → (input : List ℕ) → Action
+  Begins : (input : List ℕ) → Action
+  Resumes : (input : List ℕ) → Action
+
+-- if this is what the member's session works on
+abbrev pub deed_of : Desk → Action → Deed
+deed_of desk (Performs words input) = Commands words input
+deed_of desk (Begins input) = Sits empty_desk input
+deed_of desk (Resumes input) = Sits desk input
+
+-- A member's run over its own file. It is done if what it is to store was stored, and what a `send` is to print was printed. Else it left
+-- the file as it was: a device failed, memory ran out, or the machine stopped before. A session is done as soon as its file is stored, so
+-- it stands where that happens; until then its file belongs to it alone. One that stores several times is an event for each of its stores,
+-- and others may stand between.
+pub record Event : Type 0 where
+  pub member : ℕ
+  pub action : Action
+  pub done : Bool
 
 -- ---- which events there are
 
@@ -191,29 +217,41 @@ IsWritten g (Does orders.Quit) = Unit {0}
 IsWritten g (Does orders.Bad) = Unit {0}
 IsWritten g (Takes message) = IsIn message g.written
 
--- it goes back to nothing that was dropped, and is given bytes
-pub record IsSession (g : Group) (s : Seen) (desk : Desk) (input : List ℕ) : Type 0 where
-  pub bytes : IsBytes input
+-- which requests come doesn't depend on what is answered to them
+abbrev pub unanswered : Unit {0} → Request → Answered (Unit {0})
+unanswered u request = record { reply = []; state = u }
+
+-- each message that is taken, up to the next order to store or to quit
+abbrev pub AreWritten : Group → List ℕ → Type 0
+AreWritten g input = holds unanswered (λ u request. IsWritten g request) tt input
+
+-- what a run is given: messages that may be handed on, for whomever they are, and whether or not they were taken before; and a session
+-- is given bytes
+abbrev pub IsGiven : Group → Action → Type 0
+IsGiven g (Performs words input) = command_of words ≡ Some (OnFile Take) → IsIn input g.written
+IsGiven g (Begins input) = IsBytes input × AreWritten g input
+IsGiven g (Resumes input) = IsBytes input × AreWritten g input
+
+pub record IsOfGroup (g : Group) (i : ℕ) (action : Action) : Type 0 where
+  pub member : i < length g.files
+  pub given : IsGiven g action
+
+-- nothing is asked of one that left all as it was
+abbrev pub IsRun : Group → Event → Type 0
+IsRun g e = IsTrue e.done → IsOfGroup g e.member e.action
+
+-- ---- a session over any desk
+
+-- what it works on goes back to nothing that the replica has dropped
+pub record IsUsable (s : Seen) (desk : Desk) : Type 0 where
   pub whole : IsWhole s desk.entries desk.cursors
   pub texts : AreWhole desk.entries
   pub kept : AreKept s (desk.recorded).epoch (desk.recorded).names
   pub spelled : steps.IsWhole desk.recorded
-  pub given : holds (respond by_parts) (λ b request. IsWritten g request) (seated (at_desk s desk)) input
 
--- what a run is given: messages that may be handed on, for whomever they are, and whether or not they were taken before
-abbrev pub IsGiven : Group → ℕ → Deed → Type 0
-IsGiven g i (Commands words input) = command_of words ≡ Some (OnFile Take) → IsIn input g.written
-IsGiven g i (Sits desk input) = IfOk (replica_at g i) (λ s. IsSession g s desk input)
-
-pub record IsOfGroup (g : Group) (i : ℕ) (deed : Deed) : Type 0 where
+-- over the file of a member, and given messages that may be handed on
+pub record IsSession (g : Group) (i : ℕ) (desk : Desk) (input : List ℕ) : Type 0 where
   pub member : i < length g.files
-  pub given : IsGiven g i deed
-
--- such events, one after another; nothing is asked of one that left all as it was
-abbrev pub IsRun : Bool → Group → ℕ → Deed → Type 0
-IsRun false g i deed = Unit {0}
-IsRun true g i deed = IsOfGroup g i deed
-
-abbrev pub AreOfGroup : Group → List Event → Type 0
-AreOfGroup g [] = Unit {0}
-AreOfGroup g (e ∷ es) = IsRun e.done g e.member e.deed × AreOfGroup (after_event g e) es
+  pub usable : IfOk (replica_at g i) (λ s. IsUsable s desk)
+  pub bytes : IsBytes input
+  pub written : AreWritten g input

@@ -31,7 +31,7 @@ use Rattle.rls_top.specs.declared.words.Command.{Command}
 use Rattle.rls_top.specs.declared.words.Command.TheVariants.{OnFile}
 use Rattle.rls_top.specs.declared.words.FileCommand.TheVariants as commands
 use Rattle.rls_top.specs.Due.{Due, Makes, NoCommand, Stops, shows}
-use Rattle.rls_top.specs.Groups.{AllTaken, BeginsWithNew, EqualCountsShowSame, Group, IsFileOf, IsOfMember, IsOrderedBy, NoneRefused, NoneReleased, WaitingMade, due_of, fresh_group}
+use Rattle.rls_top.specs.Groups.{AllTaken, BeginsWithNew, EqualCountsShowSame, Group, IsFileOf, IsOfMember, IsOrderedBy, NoneRefused, NoneReleased, WaitingMade, due_of}
 use Rattle.rls_top.specs.Words.{command_of}
 use Rattle.rls_session.specs.declared.orders.Order.TheVariants as orders
 use Rattle.rls_codec.specs.Reading.{message_of}
@@ -46,8 +46,8 @@ use Rattle.rls_session.specs.Requests.{Request, Does, Takes}
 use Rattle.rls_session.specs.SessionLaws.{IsUnawaited, ShowsChange}
 use Rattle.rls_session.specs.Seats.{Seat, at_work, plan, respond, says_at, seated, shown}
 use Rattle.rls_session.specs.Sessions.{by_history, by_parts}
-use Rattle.rls_groups.specs.Events.{AreOfGroup, Commands, Deed, Desk, Event, IsOfGroup, Sits, at_desk, replica_at, replied_from, session_at, session_due, stored_by}
-use Rattle.rls_groups.specs.Lives.{Life, after_deed, begun, lived, lived_all}
+use Rattle.rls_groups.specs.Events.{Commands, Deed, Desk, Event, IsSession, IsUsable, Sits, at_desk, replica_at, replied_from, session_at, session_due, stored_by}
+use Rattle.rls_groups.specs.Lives.{AreOfGroup, Life, after_deed, begun, deed_in, lived, lived_all}
 
 -- ---- what a session answers
 
@@ -97,8 +97,12 @@ IsSavedOrLong c ending = (ending ≡ Ok (c.state).state) ⊎ ((ending ≡ Err To
 -- a session over a member's file finds a replica there, ends so, and answers each of its requests so; and nothing that waits is released by making
 -- what is drafted before a request, and at the end
 abbrev pub SessionsClean : Group → Type 0
-SessionsClean g = (i : ℕ) (desk : Desk) (input : List ℕ) → IsOfGroup g i (Sits desk input) → (s : Seen) × (replica_at g i ≡ Ok s) × IsSavedOrLong (session_at by_parts s desk input) (session_due g i desk input).ending
+SessionsClean g = (i : ℕ) (desk : Desk) (input : List ℕ) → IsSession g i desk input → (s : Seen) × (replica_at g i ≡ Ok s) × IsSavedOrLong (session_at by_parts s desk input) (session_due g i desk input).ending
     × let first = seated (at_desk s desk) in holds (respond by_parts) (λ b request. IsUnawaited b × IsClean g b request) first input × IsUnawaited (course (respond by_parts) first input).state
+
+-- So it is of each session of the group that goes on after a store: what it works on then goes back to nothing that its file has dropped.
+abbrev pub DesksUsable : Life → Type 0
+DesksUsable l = (i : ℕ) (s : Seen) → replica_at l.group i ≡ Ok s → IsUsable s (l.desks i)
 
 -- ---- what a run that stored its file made of the member's history
 
@@ -205,8 +209,8 @@ WasHeld l i H = (t : State) × IsHeld l i t × IsFront H t.history
 
 -- each run that stored its file made of the member's history what it says
 abbrev pub EachMeant : ℕ → ℕ → List Event → Type 0
-EachMeant group members es = (before after : List Event) (e : Event) (s : Seen) → before ++ (e ∷ after) ≡ es → let l = lived_all (begun group members) before in e.done ≡ true → stored_by l.group e.member e.deed ≡ Some s →
-    (t : State) × IsHeld l e.member t × IsHeld (lived l e) e.member (after_deed e.deed t) × IsMeant l.group e.member t e.deed (after_deed e.deed t)
+EachMeant group members es = (before after : List Event) (e : Event) (s : Seen) → before ++ (e ∷ after) ≡ es → let l = lived_all (begun group members) before in let deed = deed_in l e in e.done ≡ true → stored_by l.group e.member deed ≡ Some s →
+    (t : State) × IsHeld l e.member t × IsHeld (lived l e) e.member (after_deed deed t) × IsMeant l.group e.member t deed (after_deed deed t)
 
 -- the member's file stands for its history, which shows its characters in the order of M, and goes on to the one at the end
 pub record IsMoment (group members : ℕ) (now end : Life) (M : History) (i : ℕ) : Type 0 where
@@ -238,5 +242,5 @@ pub record InOneOrder (group members : ℕ) (es : List Event) (l : Life) : Type 
 -- taken, members whose counts are equal show the same, one order orders the texts of all files at all times, and each edit, each message and each
 -- change of an editor whose file was stored stands in the history with the effect that was asked for.
 abbrev pub GroupsConverge : Type 0
-GroupsConverge = (group members : ℕ) (es : List Event) → IsLarge group → 0 < members → members ≤ MEMBERS → AreOfGroup (fresh_group group members) es → let l = lived_all (begun group members) es in
-    BeginsWithNew group members × NoneRefused l.group × NoneReleased l.group × WaitingMade l.group × AllTaken l.group × EqualCountsShowSame l.group × SessionsClean l.group × EachMeant group members es × InOneOrder group members es l
+GroupsConverge = (group members : ℕ) (es : List Event) → IsLarge group → 0 < members → members ≤ MEMBERS → AreOfGroup (begun group members) es → let l = lived_all (begun group members) es in
+    BeginsWithNew group members × NoneRefused l.group × NoneReleased l.group × WaitingMade l.group × AllTaken l.group × EqualCountsShowSame l.group × SessionsClean l.group × DesksUsable l × EachMeant group members es × InOneOrder group members es l

@@ -4,3 +4,4 @@ pub mod Lives
 pub mod Groups
 pub mod Runs
 pub mod Premises
+pub mod Examples

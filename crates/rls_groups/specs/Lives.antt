@@ -1,5 +1,5 @@
--- A group and what its files stand for: the history of each member, and what waits beside it, from event to event.
-use Rattle.std.specs.Prelude.{ℕ, Bool, true, false, List, [], ◌∷◌, slice_get, slice_set, Option, Some, None, Result, Ok, Err}
+-- A group and what its files stand for: the history of each member, and what waits beside it, from event to event; and which events there are.
+use Rattle.std.specs.Prelude.{ℕ, ◌==◌, Bool, true, false, List, [], ◌∷◌, slice_get, slice_set, Option, Some, None, Result, Ok, Err, if◌then◌else◌}
 use Rattle.rls_ops.specs.declared.message.Message.{Message}
 use Rattle.rls_codec.specs.Reading.{message_of}
 use Rattle.rls_model.specs.EditRun.{Run, Done, Stopped}
@@ -17,11 +17,12 @@ use Rattle.rls_top.specs.Groups.{Group, fresh_group}
 use Rattle.rls_top.specs.Scripts.{leave_in, script_in}
 use Rattle.rls_top.specs.Words.{command_of}
 use Rattle.rls_session.specs.Sessions.{by_history}
-use Rattle.rls_groups.specs.Events.{Deed, Commands, Sits, Event, after_run, session_at, stored_by}
+use Rattle.rls_groups.specs.Events.{Deed, Commands, Sits, Desk, Event, IsRun, after_run, deed_of, desk_after, empty_desk, session_at, stored_by}
 
--- the group, and a history with what waits beside it for each member
+-- the group, what the session of each member works on beside its replica, and a history with what waits beside it for each member
 pub record Life : Type 0 where
   pub group : Group
+  pub desks : ℕ → Desk
   pub states : List State
 
 -- ---- what a run makes of a history
@@ -65,8 +66,16 @@ abbrev pub states_run : Bool → Group → List State → ℕ → Deed → List 
 states_run false g ss i deed = ss
 states_run true g ss i deed = states_with ss i (stored_by g i deed) (after_deed deed)
 
+-- and so does what its session works on
+abbrev pub desks_run : Bool → Group → (ℕ → Desk) → ℕ → Deed → ℕ → Desk
+desks_run false g desks i deed j = desks j
+desks_run true g desks i deed j = if i == j then desk_after g i deed else desks j
+
+abbrev pub deed_in : Life → Event → Deed
+deed_in l e = deed_of (l.desks e.member) e.action
+
 abbrev pub lived : Life → Event → Life
-lived l e = record { group = after_run e.done l.group e.member e.deed; states = states_run e.done l.group l.states e.member e.deed }
+lived l e = let deed = deed_in l e in record { group = after_run e.done l.group e.member deed; desks = desks_run e.done l.group l.desks e.member deed; states = states_run e.done l.group l.states e.member deed }
 
 abbrev pub lived_all : Life → List Event → Life
 lived_all l [] = l
@@ -74,4 +83,9 @@ lived_all l (e ∷ es) = lived_all (lived l e) es
 
 -- the files that `new` stores, to which nothing has happened
 abbrev pub begun : ℕ → ℕ → Life
-begun group members = record { group = fresh_group group members; states = fresh_states group members members }
+begun group members = record { group = fresh_group group members; desks = λ i. empty_desk; states = fresh_states group members members }
+
+-- each of these events, one after another, is one of the group
+abbrev pub AreOfGroup : Life → List Event → Type 0
+AreOfGroup l [] = Unit {0}
+AreOfGroup l (e ∷ es) = IsRun l.group e × AreOfGroup (lived l e) es

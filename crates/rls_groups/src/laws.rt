@@ -1,6 +1,7 @@
 //! Laws of groups. Each function runs nothing and takes no memory; its contract states the fact.
 
 ghost use Rattle.rls_journal.specs.Keeper.{StoreGives};
+ghost use Rattle.rls_groups.specs.Examples.{SessionsAreEvents};
 ghost use Rattle.rls_groups.specs.Groups.{GroupsConverge};
 ghost use Rattle.rls_groups.specs.Premises.{PutBack, UnsavedHandedOn, UsedTwice};
 ghost use Rattle.rls_groups.specs.Runs.{CommandsLeave, SessionsLeave, StoppedStores, StopsLeave, StoresLeave};
@@ -19,7 +20,7 @@ pub fn groups_converge()
 
 /// What the clauses of `rls_top::run` and of `rls_session::serve` say of a call is an event of the group: the member's file is as before, or
 /// as the run leaves it that came to its end; and which of the two, by the status. A session that stores more than once is one event for each
-/// of its stores, one after another.
+/// of its stores. This is so whatever the other members do before, between and after.
 pub fn runs_are_events<K: Keeper, S: Source, W: Sink>()
     ensures commands { CommandsLeave K.file K.faults K.load_gives K.store_gives S.left S.faults W.told W.faults }
     ensures sessions { SessionsLeave S W K.load_gives K.store_gives }
@@ -31,6 +32,11 @@ pub fn runs_are_events<K: Keeper, S: Source, W: Sink>()
 pub fn stops_are_events<D: Disk>()
     ensures stops { StopsLeave D.moment D.left_since (StoreGives D.retries D.seen D.may_leave D.moment D.left_since) }
     ensures stores { StoppedStores D.moment D.left_since (StoreGives D.retries D.seen D.may_leave D.moment D.left_since) }
+{}
+
+/// The premises can be met, by a worked example of two sessions in turn: one stores three times, and the other takes its message in between.
+pub fn events_of_sessions()
+    ensures sessions_are_events { SessionsAreEvents }
 {}
 
 /// Without the premises it fails, by three worked examples: a message that is handed on though its session stores nothing, a file that is put

@@ -1,0 +1,5 @@
+use Rattle.rls_groups.proofs.Examples.{sessions_are_events}
+use Rattle.rls_groups.proofs.laws.events_of_sessions.Goals as goal
+
+pub returns : goal.returns
+returns c = record { sessions_are_events = sessions_are_events }
