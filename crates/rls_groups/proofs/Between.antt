@@ -12,7 +12,8 @@ use Rattle.rls_top.specs.Groups.{Group, files_with}
 use Rattle.rls_top.specs.Words.{command_of}
 use Rattle.rls_groups.specs.Events.{Action, Commands, Deed, Desk, Event, Sits, after_run, deed_of, desk_after, desk_on, due_on, printed_of, replied_on, saved_of, saved_with, stored_by, stored_of, written_by}
 use Rattle.rls_groups.specs.Lives.{Life, deed_in, desks_run, lived, lived_all, states_run}
-use Rattle.rls_groups.specs.Runs.{IsFileAfter, actions_of, file_at}
+use Rattle.rls_groups.specs.Runs.{IsFileAfter, actions_of, answered_by, answered_in, file_at}
+use Rattle.rls_session.specs.Replies.{saved_text}
 
 -- ---- one run
 
@@ -48,6 +49,10 @@ desk_same g k i (Sits desk input) e = ap (λ (file : Option (List ℕ)). desk_on
 written_same : (g k : Group) (i : ℕ) (deed : Deed) → file_at g i ≡ file_at k i → written_by g i deed ≡ written_by k i deed
 written_same g k i (Commands words input) e = ap (λ (file : Option (List ℕ)). printed_of (command_of words) (due words (Some file) (Some input))) e
 written_same g k i (Sits desk input) e = ap (λ (file : Option (List ℕ)). saved_with (due_on (replica_in (loaded file)) desk input).ending (replied_on (replica_in (loaded file)) desk input)) e
+
+answered_same : (g k : Group) (i : ℕ) (deed : Deed) → file_at g i ≡ file_at k i → answered_by g i deed ≡ answered_by k i deed
+answered_same g k i (Commands words input) e = refl
+answered_same g k i (Sits desk input) e = ap (λ (file : Option (List ℕ)). (due_on (replica_in (loaded file)) desk input).replies ++ saved_text) e
 
 module _ (i : ℕ) where
   abbrev pub done : Action → Event
@@ -129,6 +134,34 @@ module _ (i : ℕ) where
   -- the file after the member's own
   pub file_after : (l : Life) (actions : List Action) (now : Option (List ℕ)) → i < length (l.group).files → now ≡ file_at (all_done l actions).group i → IsFileAfter l i actions now
   file_after l actions now m e es q = e ∙ sym (same_after es actions l l m m (record { file = refl; desk = refl }) q).file
+
+  -- ---- what is answered
+
+  -- in the member's own
+  abbrev pub answered : Life → List Action → List ℕ
+  answered l [] = []
+  answered l (action ∷ actions) = answered_by l.group i (deed_of (l.desks i) action) ++ answered (lived l (done action)) actions
+
+  answered_own : (l k : Life) (e : Event) → e.member ≡ i → IsSame l k → answered_by l.group e.member (deed_in l e) ≡ answered_by k.group i (deed_of (k.desks i) e.action)
+  answered_own l k e is h =
+      ap (λ (j : ℕ). answered_by l.group j (deed_of (l.desks j) e.action)) is
+      ∙ (ap (λ (desk : Desk). answered_by l.group i (deed_of desk e.action)) h.desk ∙ answered_same l.group k.group i (deed_of (k.desks i) e.action) h.file)
+
+  pub answered_after : (es : List Event) (actions : List Action) (l k : Life) → i < length (l.group).files → i < length (k.group).files → IsSame l k → actions_of i es ≡ actions → answered_in i l es ≡ answered k actions
+  answered_after [] actions l k m n h q = ap (answered k) q
+  answered_after (e ∷ es) actions l k m n h q =
+      bool_cases ((e.member == i) && e.done)
+      (λ f. let a = done e.action in let is = eq_is e.member i (and_left (e.member == i) e.done f) in
+      rw f (ap (λ bs. bs ++ answered_in i (lived l e) es) (answered_own l k e is h)
+      ∙ (ap (λ bs. answered_by k.group i (deed_of (k.desks i) e.action) ++ bs) (answered_after es (actions_of i es) (lived l e) (lived k a) (there_still l e m) (there_still k a n)
+      (same_trans (lived l e) (lived l a) (lived k a) (own_event l e is (and_right (e.member == i) e.done f)) (own l k e.action m n h)) refl) ∙ ap (answered k) (taken f))))
+      (λ f. rw f (answered_after es actions (lived l e) k (there_still l e m) n (same_trans (lived l e) l k (other l e.done e.member (deed_in l e) f) h) (left f)))
+    where
+      taken : ((e.member == i) && e.done) ≡ true → e.action ∷ actions_of i es ≡ actions
+      taken f = sym (rw f refl) ∙ q
+
+      left : ((e.member == i) && e.done) ≡ false → actions_of i es ≡ actions
+      left f = sym (rw f refl) ∙ q
 
   -- ---- messages
 

@@ -18,6 +18,8 @@ mod Ordered
 mod Law
 mod Between
 mod Runs
+mod Standing
 mod Stores
+mod StoppedStores
 mod Premises
 mod Examples

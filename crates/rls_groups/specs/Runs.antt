@@ -1,18 +1,17 @@
 -- What a run of the program leaves of its member's file, and what it prints, by the clauses of `run` and `serve`: it is an event of the group.
-use Rattle.std.specs.Prelude.{◌≡◌, ◌≢◌, ◌⊎◌, ◌<◌, ◌++◌, ◌==◌, ◌&&◌, ℕ, Bool, List, [], ◌∷◌, length, take, slice_get, Option, Some, IfOk, IsFalse, if◌then◌else◌}
+use Rattle.std.specs.Prelude.{◌≡◌, ◌≢◌, ◌⊎◌, ◌<◌, ◌≤◌, ◌++◌, ◌==◌, ◌&&◌, ℕ, suc, Bool, List, [], ◌∷◌, length, take, slice_get, Option, Some, IfOk, IsFalse, if◌then◌else◌}
 use Rattle.rls_ident.specs.Lists.{IsIn}
 use Rattle.rls_codec.specs.CodecLaws.{IsBytes}
 use Rattle.rls_model.specs.Receiving.{State}
-use Rattle.rls_io.specs.Device.{Appends}
+use Rattle.rls_io.specs.Device.{Appends, IsCutShort}
 use Rattle.rls_journal.specs.Areas.{Areas, kept}
 use Rattle.rls_journal.specs.Disk.{LeavesOnly}
-use Rattle.rls_stages.specs.KeptFile.{IsFileFor}
 use Rattle.rls_top.specs.declared.words.Command.TheVariants.{OnFile}
 use Rattle.rls_top.specs.declared.words.FileCommand.TheVariants.{Send}
 use Rattle.rls_top.specs.Calls as commands
 use Rattle.rls_top.specs.Due.{due}
 use Rattle.rls_top.specs.Endings.{IsDone, IsStored}
-use Rattle.rls_top.specs.Groups.{Group}
+use Rattle.rls_top.specs.Groups.{Group, IsFileOf}
 use Rattle.rls_top.specs.Running.{CommandEnds}
 use Rattle.rls_top.specs.Words.{command_of}
 use Rattle.rls_session.specs.Devices.{Devices}
@@ -22,8 +21,8 @@ use Rattle.rls_session.specs.Serving.{SessionEnds}
 use Rattle.rls_session.specs.Courses.{Stretch, stretches}
 use Rattle.rls_session.specs.Sessions.{by_parts}
 use Rattle.rls_groups.specs.Stops.{LeavesOldOrDue, LeavesOldOrStores}
-use Rattle.rls_groups.specs.Events.{Action, Begins, Event, Performs, Resumes, empty_desk, replica_at, session_at, session_due, unanswered}
-use Rattle.rls_groups.specs.Lives.{Life, lived_all}
+use Rattle.rls_groups.specs.Events.{Action, Begins, Commands, Deed, Event, Performs, Resumes, Sits, empty_desk, replica_at, session_at, session_due, unanswered}
+use Rattle.rls_groups.specs.Lives.{Life, deed_in, lived, lived_all}
 
 -- the member's file, as the group has it
 abbrev pub file_at : Group → ℕ → Option (List ℕ)
@@ -86,12 +85,34 @@ begins_over (a ∷ others) = Begins a.input ∷ goes_on_over others
 abbrev pub actions_over : List ℕ → List Action
 actions_over input = begins_over (stretches unanswered (λ u. u) tt input)
 
+-- what a session answers in a run that stores, with the `saved` after it
+abbrev pub answered_by : Group → ℕ → Deed → List ℕ
+answered_by g i (Commands words input) = []
+answered_by g i (Sits desk input) = (session_due g i desk input).replies ++ saved_text
+
+-- what the member is answered in these events, one after another
+abbrev pub answered_in : ℕ → Life → List Event → List ℕ
+answered_in i l [] = []
+answered_in i l (e ∷ es) = (if (e.member == i) && e.done then answered_by l.group e.member (deed_in l e) else []) ++ answered_in i (lived l e) es
+
+-- What a session that ended with this status wrote, if so many of these actions are done: all that is answered in the first of them, each with its
+-- `saved`, and then some bytes. With another status than 0 at least one byte is missing of what is answered in one action more. So each
+-- `saved` that is written, and what was answered before it, is of an action that is done.
+pub record IsWrittenBy (l : Life) (i : ℕ) (actions : List Action) (k n : ℕ) (old new : Option (List ℕ)) : Type 0 where
+  pub whole : ℕ
+  pub few : whole ≤ k
+  pub more : List ℕ
+  pub answered : (es : List Event) → actions_of i es ≡ take whole actions → Appends old new (answered_in i l es ++ more)
+  pub cut_short : n ≢ 0 → (es : List Event) → actions_of i es ≡ take (suc whole) actions → IsCutShort old new (answered_in i l es)
+
 -- Of any session over a member's file that stands for a history, by the clause `ends` of `serve`: it is one event for each of its stores. With
--- status 0 all of them are done; and whatever the status, the file that is kept is the one after some of the first, done.
+-- status 0 all of them are done, and all that is answered in them is written. Whatever the status, the file that is kept is the one after some
+-- of the first, done; and what is written is told of these.
 abbrev pub StoresLeave : {K : Type 0} → (S W : Type 0) → (K → Bool → K → Type 0) → (K → List ℕ → Bool → K → Type 0) → Type 0
-StoresLeave {K} S W load store = (l : Life) (i : ℕ) (input : List ℕ) (n : ℕ) (now : Option (List ℕ)) (t : State) (bytes : List ℕ) (keeper_old keeper_new : K) (input_old input_new : S) (output_old output_new : W) (old new : Devices) → i < length (l.group).files → file_at l.group i ≡ Some bytes → IsFileFor bytes t → IsBytes input →
-    SessionEnds load store ((input_new ≡ input_old) × (output_new ≡ output_old)) n keeper_old keeper_new old new → old.file ≡ Some (file_at l.group i) → old.left ≡ Some input → new.file ≡ Some now →
-    (n ≡ 0 → IsFileAfter l i (actions_over input) now) × ((k : ℕ) × IsFileAfter l i (take k (actions_over input)) now)
+StoresLeave {K} S W load store = (l : Life) (i : ℕ) (input : List ℕ) (n : ℕ) (now : Option (List ℕ)) (t : State) (keeper_old keeper_new : K) (input_old input_new : S) (output_old output_new : W) (old new : Devices) → IsFileOf l.group i t → IsBytes input →
+    SessionEnds load store ((input_new ≡ input_old) × (output_new ≡ output_old)) n keeper_old keeper_new old new → old.file ≡ Some (file_at l.group i) → old.left ≡ Some input → new.file ≡ Some now → let actions = actions_over input in
+    (n ≡ 0 → IsFileAfter l i actions now × ((es : List Event) → actions_of i es ≡ actions → Appends old.told new.told (answered_in i l es)))
+    × ((k : ℕ) × IsFileAfter l i (take k actions) now × IsWrittenBy l i actions k n old.told new.told)
 
 -- ---- over the keeper with two slots
 
@@ -113,5 +134,5 @@ LeavesActions {D} moment left_since l i done (action ∷ actions) old new =
 
 -- Of any session over a member's file that stands for a history: a stop leaves the file of one of its stores, in turn, each of which is an event.
 abbrev pub StoppedStores : {D : Type 0} → (D → ℕ) → (D → ℕ → Areas → Type 0) → (List ℕ → Bool → D → D → Type 0) → Type 0
-StoppedStores {D} moment left_since stores_so = (l : Life) (i : ℕ) (input : List ℕ) (t : State) (bytes : List ℕ) (old new : D) → i < length (l.group).files → file_at l.group i ≡ Some bytes → IsFileFor bytes t → IsBytes input →
+StoppedStores {D} moment left_since stores_so = (l : Life) (i : ℕ) (input : List ℕ) (t : State) (old new : D) → IsFileOf l.group i t → IsBytes input →
     LeavesOldOrStores moment left_since stores_so (session.due (Some (file_at l.group i)) (Some input)) (file_at l.group i) old new → LeavesActions moment left_since l i [] (actions_over input) old new

@@ -1,6 +1,6 @@
 use Rattle.rls_journal.specs.Keeper.{StoreGives}
 use Rattle.rls_groups.proofs.Runs.{stops_leave}
-use Rattle.rls_groups.proofs.Stores.{stopped_stores}
+use Rattle.rls_groups.proofs.StoppedStores.{stopped_stores}
 use Rattle.rls_groups.proofs.laws.stops_are_events.Goals as goal
 
 pub returns : goal.returns
