@@ -1,6 +1,7 @@
 -- How a session ends, in one relation, from how its stages end.
-use Rattle.std.proofs.Common.{◌≡◌, ◌≢◌, ◌∙◌, ℕ, Bool, true, false, List, Option, Some, None, IfSome, OnOk, Result, Ok, Err, sym, ap, subst}
+use Rattle.std.proofs.Common.{◌≡◌, ◌≢◌, ◌∙◌, ℕ, Bool, true, false, List, [], length, Option, Some, None, IfSome, OnOk, Result, Ok, Err, sym, ap, subst}
 use Rattle.rls_io.specs.Device.{Keeps, Rose}
+use Rattle.rls_report.specs.declared.failures.CommandError.{CommandError}
 use Rattle.rls_report.specs.declared.failures.Failure.{Failure}
 use Rattle.rls_report.specs.declared.failures.Failure.TheVariants.{Fault}
 use Rattle.rls_report.specs.declared.failures.Fault.TheVariants.{Keeper, Source, Sink}
@@ -16,11 +17,18 @@ use Rattle.rls_session.specs.Calls.{AreAllFilesOf, AreDue, tried}
 use Rattle.rls_session.specs.Devices.{Devices}
 use Rattle.rls_session.specs.Due.{due, due_from, due_on, found_in}
 use Rattle.rls_session.specs.Endings.{EndsNear, EndsPromptly, IsSessionsOwn, IsStatusOf, Leaves, OnFound, OnSession}
-use Rattle.rls_session.specs.Sent.{SendsMessages}
+use Rattle.rls_session.specs.Sent.{SendsBefore, SendsMessages}
 use Rattle.rls_session.specs.Serving.{SessionEnds, StageEnds, file_after}
 use Rattle.rls_session.proofs.Called.{HasCalled, served_calls, unopened_calls}
 use Rattle.rls_session.proofs.Stages.{after_none}
 use Rattle.rls_session.proofs.Served.{done_so, ends_due, fault_of, no_keeper_fault, no_other, ok_more, open_failed, open_leaves, opened_as, opened_leaves, opened_own, opened_usable, unread_near, usable_only}
+
+-- before no store
+sends_none : (found : Option (Result Seen CommandError)) (left : Option (List ℕ)) → OnFound found left (λ s. SendsBefore 0 (sitting_at s))
+sends_none None left = tt
+sends_none (Some (Err e)) left = tt
+sends_none (Some (Ok s)) None = tt
+sends_none (Some (Ok s)) (Some given) = tt
 
 module _ {K : Type 0} (load : K → Bool → K → Type 0) (store : K → List ℕ → Bool → K → Type 0) (untouched : Type 0) (n : ℕ) (keeper_old keeper_new : K) (old new : Devices) where
   abbrev pub EndsSo : Type 0
@@ -30,11 +38,12 @@ module _ {K : Type 0} (load : K → Bool → K → Type 0) (store : K → List �
   at_status : (r : Result (Unit {0}) Failure) → IsStatusOf r n → (called : HasCalled load store (due old.file old.left) untouched n keeper_old keeper_new)
       → Stays (file_after (called.stores).stored old.file) new.file → ((called.stores).failed ≡ None → Keeps (file_after (called.stores).stored old.file) new.file)
       → IfSome (due old.file old.left) (λ ds. Leaves r ds old.file new.file old.told new.told) → OnOk r (OnSession old.file old.left (λ s. SendsMessages (sitting_at s)))
+      → OnSession old.file old.left (λ s. SendsBefore (length (called.stores).stored) (sitting_at s))
       → (r ≡ Err (Fault Keeper) → Rose old.keeper_faults new.keeper_faults) → (r ≢ Err (Fault Keeper) → new.keeper_faults ≡ old.keeper_faults)
       → (r ≡ Err (Fault Source) → IfSome old.file IsUsable × Rose old.input_faults new.input_faults) → (r ≡ Err (Fault Sink) → Rose old.output_faults new.output_faults) → IsSessionsOwn r
       → IfSome old.file (λ kept. (IsUsable kept → ⊥) → untouched) → EndsNear (found_in old.file) old.left new.left
       → (r ≡ Err (Fault Source) → EndsPromptly (found_in old.file) old.left new.left old.told new.told) → EndsSo
-  at_status r s called stays kept leaves messages keeper uncounted input output own unread near prompt = record {
+  at_status r s called stays kept leaves messages sent keeper uncounted input output own unread near prompt = record {
     stores = called.stores;
     calls = called.calls;
     files = called.files;
@@ -44,6 +53,7 @@ module _ {K : Type 0} (load : K → Bool → K → Type 0) (store : K → List �
     stays = stays;
     kept = kept;
     messages = λ z. done_so r n _ s messages z;
+    sent = sent;
     keeper = λ e. keeper ((fault_of r n s).0 e);
     uncounted = λ other. uncounted (no_keeper_fault r n s other);
     input = λ e. input ((fault_of r n s).1 e);
@@ -66,6 +76,7 @@ module _ {K : Type 0} (load : K → Bool → K → Type 0) (store : K → List �
       (subst (λ (t : Option (List ℕ)). IfSome (due old.file old.left) (λ ds. Leaves (Err f) ds old.file new.file old.told t)) (sym told)
       (subst (λ (g : Failure). IfSome (due old.file old.left) (λ ds. Leaves (Err g) ds old.file new.file old.told old.told)) (sym is) (open_leaves old.file old.left e new.file old.told opened kept)))
       tt
+      (subst (λ (files : List (List ℕ)). OnSession old.file old.left (λ s. SendsBefore (length files) (sitting_at s))) (sym called.1) (sends_none (found_in old.file) old.left))
       (λ h. keeper (failed.0 h)) (λ other. uncounted (λ same. other (ap (λ (g : Failure). Err g) (is ∙ ap of_open same))))
       (λ h. absurd (failed.1 h)) (λ h. absurd (failed.2 h)) (subst (λ (g : Failure). IsSessionsOwn (Err g)) (sym is) (opened_own e errors))
       (unread old.file) (subst (λ (t : Option (List ℕ)). EndsNear (found_in old.file) old.left t) (sym left) (unread_near (found_in old.file) old.left)) (λ h. absurd (failed.1 h))
@@ -83,6 +94,7 @@ module _ {K : Type 0} (load : K → Bool → K → Type 0) (store : K → List �
       at_status r is (called stage) (from_mid (λ o. Stays o new.file) (stage.calls).stores.stored tt stage.stays) (λ none. from_mid (λ o. Keeps o new.file) (stage.calls).stores.stored tt (stage.kept none))
       (opened_leaves r s old.file mid.file new.file old.left old.told new.told found kept stage.leaves)
       (ok_more r _ _ (λ m. opened_as old.file s (λ o. OnFound o old.left (λ s. SendsMessages (sitting_at s))) tt found m) stage.messages)
+      (opened_as old.file s (λ o. OnFound o old.left (λ s. SendsBefore (length (stage.calls).stores.stored) (sitting_at s))) tt found stage.sent)
       stage.keeper stage.uncounted (λ e. (opened_usable old.file s found, (stage.input e).0)) stage.output stage.own
       (usable_only old.file untouched (opened_usable old.file s found))
       (opened_as old.file s (λ o. EndsNear o old.left new.left) tt found stage.near)

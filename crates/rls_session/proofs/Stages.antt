@@ -1,5 +1,5 @@
 -- How a session ends, from how its stretches do.
-use Rattle.std.proofs.Common.{◌≡◌, ◌≢◌, ◌∙◌, ◌<◌, ◌≤◌, ◌+◌, ℕ, suc, Bool, true, false, IsTrue, IsFalse, List, [], ◌∷◌, ◌++◌, length, drop, map, Option, Some, None, IfSome, IfErr, IsErr, OnOk, Result, Ok, Err, refl, sym, ap, subst, arith, inl, inr, append_assoc, length-append, length-drop}
+use Rattle.std.proofs.Common.{◌≡◌, ◌≢◌, ◌∙◌, ◌<◌, ◌≤◌, ◌+◌, ℕ, zero, suc, Bool, true, false, IsTrue, IsFalse, List, [], ◌∷◌, ◌++◌, length, take, drop, map, Option, Some, None, IfSome, IfErr, IsErr, OnOk, Result, Ok, Err, refl, sym, ap, subst, arith, inl, inr, append_assoc, length-append, length-drop}
 use Rattle.std.specs.Prelude.{option_map}
 use Rattle.rls_ident.specs.declared.limits.TheConstants.{INPUT_BYTES}
 use Rattle.rls_io.specs.Device.{Appends, IsCutShort, Keeps, Rose}
@@ -23,8 +23,8 @@ use Rattle.rls_session.specs.Due.{Due, due_from, due_of}
 use Rattle.rls_session.specs.Endings.{IsDoneTo, IsKept, IsSessionsOwn, Leaves, LeavesIn, Saves}
 use Rattle.rls_session.specs.Intake.{IntakeSeen, come_at, known_come}
 use Rattle.rls_session.specs.Replies.{saved_text}
-use Rattle.rls_session.specs.Seats.{Seat, at_work, closed, course_at, respond, resumed_seat, seated, session_by}
-use Rattle.rls_session.specs.Sent.{SendMessages, SendsFrom, SendsMessages}
+use Rattle.rls_session.specs.Seats.{Seat, at_work, closed, course_at, respond, resumed_seat, seated, session_by, stretches_by}
+use Rattle.rls_session.specs.Sent.{SendMessages, SendsBefore, SendsFrom, SendsMessages}
 use Rattle.rls_session.specs.Serving.{GoesOn, HasGoneOn, SaveEnds, StageEnds, file_after}
 use Rattle.rls_session.specs.Sessions.{by_parts}
 use Rattle.rls_session.proofs.Courses.{later_is, later_none, stretches_begin}
@@ -90,6 +90,7 @@ record HasLeft {K : Type 0} (store : K → List ℕ → Bool → K → Type 0) (
   pub calls : HasServed store ds r keeper_old keeper_new
   pub stays : Stays (file_after calls.stores.stored file) new_file
   pub kept : calls.stores.failed ≡ None → Keeps (file_after calls.stores.stored file) new_file
+  pub few : length calls.stores.stored ≤ 1
 
 -- no store failed
 unfailed : (f : Failure) → f ≢ Fault Keeper → IsFailedOf (Err f) None
@@ -102,18 +103,20 @@ unfailed (Fault Memory) other = tt
 
 -- one file was stored, which is the first that is called for
 module _ {K : Type 0} (store : K → List ℕ → Bool → K → Type 0) (ds : Option (List Due)) (file new_file : Option (Option (List ℕ))) where
-  none_left : (f : Failure) (k l : K) → f ≢ Fault Keeper → l ≡ k → new_file ≡ file → HasLeft store ds (Err f) k l file new_file
-  none_left f k l other is same = record {
+  none_left : (f : Failure) (k l : K) → f ≢ Fault Keeper → l ≡ k → new_file ≡ file → (left : HasLeft store ds (Err f) k l file new_file) × (left.calls.stores.stored ≡ [])
+  none_left f k l other is same = (record {
     calls = record { stores = no_stores; at_failure = l; stored = is; failed = refl; failed_is = unfailed f other; files = no_files ds; some = tt; all = tt };
     stays = subst (Stays file) (sym same) (stays_so file file (keeps_same file));
     kept = λ none. subst (Keeps file) (sym same) (keeps_same file);
-  }
+    few = omega arith;
+  }, refl)
 
   one_left : (r : Result (Unit {0}) Failure) (bytes : List ℕ) (k l : K) → store k bytes true l → IsFailedOf r None → AreDue ds (bytes ∷ []) → OnOk r (IfSome ds (λ ds. AreAllFilesOf ds (bytes ∷ []))) → device.Stores file new_file bytes → HasLeft store ds r k l file new_file
   one_left r bytes k l call none due all stored = record {
     calls = record { stores = record { stored = bytes ∷ []; failed = None }; at_failure = l; stored = (l, call, refl); failed = refl; failed_is = none; files = due; some = on_ok r; all = all };
     stays = after_store [] bytes file new_file (λ o. Stays o new_file) tt stored (stays_so new_file new_file (keeps_same new_file));
     kept = λ e. after_store [] bytes file new_file (λ o. Keeps o new_file) tt stored (keeps_same new_file);
+    few = omega arith;
   }
     where
       on_ok : (r : Result (Unit {0}) Failure) → OnOk r (0 < length (bytes ∷ []))
@@ -125,6 +128,7 @@ module _ {K : Type 0} (store : K → List ℕ → Bool → K → Type 0) (ds : O
     calls = record { stores = record { stored = []; failed = Some bytes }; at_failure = k; stored = refl; failed = call; failed_is = is; files = due; some = tt; all = tt };
     stays = stays_on file file new_file (keeps_same file) keeps;
     kept = λ none. absurd (some_not_none none);
+    few = omega arith;
   }
     where
       some_not_none : (Some bytes ≡ None) → ⊥
@@ -139,13 +143,13 @@ saved_left {K} store ds saves r k l file new_file mid new called saves_so keeps 
     go : (r : Result (Unit {0}) Failure) → HasSaved store (IsFileOf saves) r k l → Saves r saves file new_file mid new → IfErr r (λ f. f ≢ Fault Sink → Keeps new_file file)
         → ((bytes : List ℕ) → IsFileOf saves bytes → OnOk r (IfSome ds (λ ds. AreAllFilesOf ds (bytes ∷ [])))) → HasLeft store ds r k l file new_file
     go (Ok u) c w s a = one_left store ds file new_file (Ok u) c.0 k l c.2 refl (due c.0 c.1) (a c.0 c.1) (stores_bytes saves c.0 file new_file c.1 w.0)
-    go (Err NoCommand) c w s a = none_left store ds file new_file NoCommand k l (λ e. cc) c (same c)
-    go (Err (Command e)) c w s a = none_left store ds file new_file (Command e) k l (λ e. cc) c (same c)
+    go (Err NoCommand) c w s a = (none_left store ds file new_file NoCommand k l (λ e. cc) c (same c)).0
+    go (Err (Command e)) c w s a = (none_left store ds file new_file (Command e) k l (λ e. cc) c (same c)).0
     go (Err (Fault Keeper)) c w s a = failed_left store ds file new_file (Fault Keeper) c.0 k l c.2 (c.0, refl) (due c.0 c.1) (s (λ e. cc))
-    go (Err (Fault Source)) c w s a = none_left store ds file new_file (Fault Source) k l (λ e. cc) c (same c)
-    go (Err (Fault Sink)) (inl c) w s a = none_left store ds file new_file (Fault Sink) k l (λ e. cc) c (same c)
+    go (Err (Fault Source)) c w s a = (none_left store ds file new_file (Fault Source) k l (λ e. cc) c (same c)).0
+    go (Err (Fault Sink)) (inl c) w s a = (none_left store ds file new_file (Fault Sink) k l (λ e. cc) c (same c)).0
     go (Err (Fault Sink)) (inr c) w s a = one_left store ds file new_file (Err (Fault Sink)) c.0 k l c.2 refl (due c.0 c.1) tt (stores_bytes saves c.0 file new_file c.1 w.0)
-    go (Err (Fault Memory)) (inl c) w s a = none_left store ds file new_file (Fault Memory) k l (λ e. cc) c (same c)
+    go (Err (Fault Memory)) (inl c) w s a = (none_left store ds file new_file (Fault Memory) k l (λ e. cc) c (same c)).0
     go (Err (Fault Memory)) (inr c) w s a = failed_left store ds file new_file (Fault Memory) c.0 k l c.2 tt (due c.0 c.1) (s (λ e. cc))
 
 -- ---- the end of a stretch
@@ -155,6 +159,18 @@ near_first : (d : Sitting Seen) (come left : Option (List ℕ)) → IfSome come 
 near_first d None left h = tt
 near_first d (Some given) None h = tt
 near_first d (Some given) (Some rest) h = let most = session_used_first by_parts d given in omega (arith, h, most)
+
+-- the messages before as many stores as there were
+sends_none : (d : Sitting Seen) (come : Option (List ℕ)) → IfSome come (SendsBefore 0 d)
+sends_none d None = tt
+sends_none d (Some given) = tt
+
+sends_first : (d : Sitting Seen) (come : Option (List ℕ)) (k : ℕ) → k ≤ 1 → IfSome come (λ given. holds (respond by_parts) SendsFrom (seated d) given) → IfSome come (SendsBefore k d)
+sends_first d None k few sent = tt
+sends_first d (Some given) zero few sent = tt
+sends_first d (Some given) (suc zero) few sent =
+    subst (λ (l : List (Stretch (Seat Seen))). SendMessages (take 1 l)) (sym (stretches_begin (respond by_parts) (resumed_seat by_parts) (seated d) given)) (sent, tt)
+sends_first d (Some given) (suc (suc k)) few sent = absurd (omega (arith, few))
 
 -- answering failed
 pub answer_ends : {K : Type 0} (store : K → List ℕ → Bool → K → Type 0) (d : Sitting Seen) (come : Option (List ℕ)) (ended : Bool) (e : AnswerError) (f : Failure) (k : K) (file : Option (Option (List ℕ))) (left new_left old new : Option (List ℕ)) (keeper_faults in_faults new_in_faults out_faults new_out_faults : ℕ)
@@ -167,9 +183,9 @@ answer_ends {K} store d come ended e f k file left new_left old new keeper_fault
     let failed = answer_failed e f is in
     record {
       leaves = on_dues d come (λ ds. Leaves (Err f) ds file file old new) (leave come long cut part);
-      calls = left_so.calls;
-      stays = left_so.stays;
-      kept = left_so.kept;
+      calls = (left_so.0).calls;
+      stays = (left_so.0).stays;
+      kept = (left_so.0).kept;
       keeper = λ h. absurd (failed.0 h);
       uncounted = λ h. refl;
       input = λ h. input (failed.1 h);
@@ -177,10 +193,11 @@ answer_ends {K} store d come ended e f k file left new_left old new keeper_fault
       near = near_first d come new_left near;
       prompt = λ h. prompt (failed.1 h);
       messages = tt;
+      sent = subst (λ (files : List (List ℕ)). IfSome come (SendsBefore (length files) d)) (sym left_so.1) (sends_none d come);
       own = subst (λ (g : Failure). IsSessionsOwn (Err g)) (sym is) (answered_own e);
     }
   where
-    left_so : HasLeft store (due_from d come) (Err f) k k file file
+    left_so : (left : HasLeft store (due_from d come) (Err f) k k file file) × (left.calls.stores.stored ≡ [])
     left_so = none_left store (due_from d come) file file f k k (λ q. (answer_failed e f is).0 (ap (λ (g : Failure). Err g) q)) refl refl
 
     leave : (come : Option (List ℕ)) → (e ≡ TooLarge → IfSome come (λ given. INPUT_BYTES < (here d given).used)) → (e ≡ SinkFault → IfSome come (λ given. IsCutShort old new (here d given).replies)) → IfSome come (λ given. IsPart old new (here d given).replies)
@@ -208,6 +225,7 @@ save_ends {K} store d next come ended stores r s k l file new_file left new_left
   near = near_first d come new_left near;
   prompt = λ h. absurd (save.inner h);
   messages = messages r come done last sent;
+  sent = sends_first d come (length (left_so.calls).stores.stored) left_so.few sent;
   own = save.own;
 }
   where
@@ -409,6 +427,7 @@ goes_on {K} store d next come next_come ended next_ended r k m l old mid new on 
   near = near come on.on;
   prompt = λ e. prompt come on.on (h.input e).1 (h.prompt e);
   messages = messages r come on.on h.messages;
+  sent = sends come on.on;
   own = h.own;
 }
   where
@@ -459,12 +478,23 @@ goes_on {K} store d next come next_come ended next_ended r k m l old mid new on 
         at None n = tt
         at (Some rest) n = let len = length-drop (suc (here d given).used) given in omega (arith, n, len, used)
 
+    -- the first stretch, and those after it
+    stretches_on : (given : List ℕ) → GoesOn d given next next_come next_ended on.bytes old mid
+        → stretches_by by_parts d given ≡ record { state = seated d; input = given } ∷ stretches_by by_parts (resumed by_parts (here d given).state) (rest_of d given)
+    stretches_on given g = stretches_begin (respond by_parts) (resumed_seat by_parts) (seated d) given ∙ ap (λ (l : List (Stretch (Seat Seen))). record { state = seated d; input = given } ∷ l) (later_is (respond by_parts) (resumed_seat by_parts) (seated d) given g.stores)
+
+    -- what is known of the next sitting's messages
+    sent_next : (P : Sitting Seen → List ℕ → Type 0) (given : List ℕ) → GoesOn d given next next_come next_ended on.bytes old mid → IfSome next_come (P next) → P (resumed by_parts (here d given).state) (rest_of d given)
+    sent_next P given g p = subst (λ (n : Sitting Seen). P n (rest_of d given)) g.next_is (subst (λ (o : Option (List ℕ)). IfSome o (P next)) g.come_is p)
+
     messages : (r : Result (Unit {0}) Failure) (come : Option (List ℕ)) → IfSome come (λ given. GoesOn d given next next_come next_ended on.bytes old mid) → OnOk r (IfSome next_come (SendsMessages next)) → OnOk r (IfSome come (SendsMessages d))
     messages (Err f) come g a = tt
     messages (Ok u) None g a = tt
-    messages (Ok u) (Some given) g a =
-        let both = stretches_begin (respond by_parts) (resumed_seat by_parts) (seated d) given ∙ ap (λ (l : List (Stretch (Seat Seen))). record { state = seated d; input = given } ∷ l) (later_is (respond by_parts) (resumed_seat by_parts) (seated d) given g.stores) in
-        subst SendMessages (sym both) (g.sent, subst (λ (n : Sitting Seen). SendsMessages n (rest_of d given)) g.next_is (subst (λ (o : Option (List ℕ)). IfSome o (SendsMessages next)) g.come_is a))
+    messages (Ok u) (Some given) g a = subst SendMessages (sym (stretches_on given g)) (g.sent, sent_next SendsMessages given g a)
+
+    sends : (come : Option (List ℕ)) → IfSome come (λ given. GoesOn d given next next_come next_ended on.bytes old mid) → IfSome come (SendsBefore (suc (length (h.calls).stores.stored)) d)
+    sends None g = tt
+    sends (Some given) g = subst (λ (l : List (Stretch (Seat Seen))). SendMessages (take (suc (length (h.calls).stores.stored)) l)) (sym (stretches_on given g)) (g.sent, sent_next (SendsBefore (length (h.calls).stores.stored)) given g h.sent)
 
     prompt : (come : Option (List ℕ)) → IfSome come (λ given. GoesOn d given next next_come next_ended on.bytes old mid) → IsFalse next_ended
         → IfSome next_come (λ given. IsPrompt (λ front. replies_in (session_by by_parts next front)) given new.left mid.told new.told) → IfSome come (λ given. IsPrompt (λ front. replies_in (session_by by_parts d front)) given new.left old.told new.told)

@@ -1,5 +1,5 @@
 -- The messages that a session answers.
-use Rattle.std.specs.Prelude.{◌<◌, ℕ, List, [], ◌∷◌}
+use Rattle.std.specs.Prelude.{◌<◌, ℕ, List, [], ◌∷◌, take}
 use Rattle.rls_ops.specs.Spelling.{message_bytes}
 use Rattle.rls_codec.specs.CodecLaws.{IsMessage}
 use Rattle.rls_seen.specs.Messages.{message_over}
@@ -32,3 +32,7 @@ SendMessages (a ∷ others) = holds (respond by_parts) SendsFrom a.state a.input
 -- to each such request of an input, from this sitting on
 abbrev pub SendsMessages : Sitting Seen → List ℕ → Type 0
 SendsMessages d given = SendMessages (stretches_by by_parts d given)
+
+-- to each such request up to the k-th store
+abbrev pub SendsBefore : ℕ → Sitting Seen → List ℕ → Type 0
+SendsBefore k d given = SendMessages (take k (stretches_by by_parts d given))

@@ -16,7 +16,7 @@ use Rattle.rls_session.specs.Courses.{holds, replies_in, used_in}
 use Rattle.rls_session.specs.Devices.{Devices}
 use Rattle.rls_session.specs.Due.{due, due_from, due_of, found_in}
 use Rattle.rls_session.specs.Endings.{Ends, EndsNear, EndsPromptly, IsDoneTo, IsSessionsOwn, IsSessionStatus, Leaves, OnSession, Saves}
-use Rattle.rls_session.specs.Sent.{SendsFrom, SendsMessages}
+use Rattle.rls_session.specs.Sent.{SendsBefore, SendsFrom, SendsMessages}
 use Rattle.rls_session.specs.Seats.{course_at, respond, seated, session_by}
 use Rattle.rls_session.specs.Sessions.{by_parts}
 
@@ -56,7 +56,9 @@ pub record StageEnds {K : Type 0} (store : K → List ℕ → Bool → K → Typ
   -- how far the input is read, and what is answered before it is read on
   pub near : IfSome come (λ given. IsNear given new.left (used_in (session_by by_parts d given)))
   pub prompt : r ≡ Err (Fault Source) → IfSome come (λ given. IsPrompt (λ front. replies_in (session_by by_parts d front)) given new.left old.told new.told)
+  -- what is answered to a request for a message is one: of a session that is done to each, and else to each before a store that was done
   pub messages : OnOk r (IfSome come (SendsMessages d))
+  pub sent : IfSome come (SendsBefore (length calls.stores.stored) d)
   -- no other failure ends it
   pub own : IsSessionsOwn r
 
@@ -100,8 +102,10 @@ pub record SessionEnds {K : Type 0} (load : K → Bool → K → Type 0) (store 
   -- The file is that of the last store, or as it was. After a store that failed that is known only if the keeper tells the file.
   pub stays : Stays (file_after stores.stored old.file) new.file
   pub kept : stores.failed ≡ None → Keeps (file_after stores.stored old.file) new.file
-  -- what is answered to a request for a message is one, so that other members can take it
+  -- What is answered to a request for a message is one, so that other members can take it: with the status 0 each, and whatever the status
+  -- each that was answered before a store that was done.
   pub messages : n ≡ 0 → OnSession old.file old.left (λ s. SendsMessages (sitting_at s))
+  pub sent : OnSession old.file old.left (λ s. SendsBefore (length stores.stored) (sitting_at s))
   -- the device that gives the status has failed, and the keeper only then
   pub keeper : n ≡ 7 → Rose old.keeper_faults new.keeper_faults
   pub uncounted : n ≢ 7 → new.keeper_faults ≡ old.keeper_faults
