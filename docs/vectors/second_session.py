@@ -12,7 +12,8 @@ class Session:
     def __init__(self, second, rep, save):
         self.S, self.rep, self.save = second, rep, save
         self.entries = []                       # of `u`: (epoch, identifiers, None) or (epoch, first, text)
-        self.back, self.again, self.is_open = [], [], False
+        self.back, self.again, self.is_open = [], [], False     # of `z` and `y`: groups, each its number and then its steps
+        self.groups = 0
         self.epoch, self.names, self.labels = rep.greatest(), [], {}
         self.cursors, self.telling, self.lines = {0: None}, False, []
         self.shown = None                       # with a draft: the text that is shown, a list of places of the replica's text and of new characters
@@ -65,7 +66,8 @@ class Session:
             steps = self.cuts(pos, count)
             o = rep.edit(edit)
         if not self.is_open:
-            self.back.append([])
+            self.groups += 1
+            self.back.append([self.groups])
         self.back[-1] += steps
         self.is_open, self.again = True, []
         return f"ok {o.seq}"
@@ -117,7 +119,10 @@ class Session:
         S, rep = self.S, self.rep
         self.settle()
         if step[0] == "put":
-            for p, n in reversed(self.ranges(sorted(self.names[k] for k in step[1]))):
+            ranges = self.ranges(sorted(self.names[k] for k in step[1]))
+            if not ranges:
+                made.append(("put", []))
+            for p, n in reversed(ranges):
                 rep.made((S.DELETE, p, n))
                 cut = self.cuts(p, n)
                 rep.edit((S.DELETE, p, n))
@@ -144,15 +149,17 @@ class Session:
             raise self.S.Refused("nothing")
         self.is_open = False
         group, made = source[-1], []
-        count = len(group)
+        count = len(group) - 1
         try:
-            while group:
+            while len(group) > 1:
                 self.step_back(group[-1], made)
                 group.pop()
             source.pop()
         finally:
-            if made:
-                target.append(made)
+            if made and target and target[-1][0] == group[0]:
+                target[-1] += made
+            elif made:
+                target.append([group[0]] + made)
         return f"{word} {count}"
 
     # e

@@ -1,5 +1,5 @@
 -- How a session ends, in one relation, from how its stages end.
-use Rattle.std.proofs.Common.{◌≡◌, ◌≢◌, ◌∙◌, ℕ, Bool, true, false, List, [], length, Option, Some, None, IfSome, OnOk, Result, Ok, Err, sym, ap, subst}
+use Rattle.std.proofs.Common.{◌≡◌, ◌≢◌, ◌∙◌, ℕ, Bool, true, false, List, length, Option, Some, None, IfSome, OnOk, Result, Ok, Err, sym, ap, subst}
 use Rattle.rls_io.specs.Device.{Keeps, Rose}
 use Rattle.rls_report.specs.declared.failures.CommandError.{CommandError}
 use Rattle.rls_report.specs.declared.failures.Failure.{Failure}

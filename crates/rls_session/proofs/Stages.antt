@@ -104,12 +104,15 @@ unfailed (Fault Memory) other = tt
 -- one file was stored, which is the first that is called for
 module _ {K : Type 0} (store : K → List ℕ → Bool → K → Type 0) (ds : Option (List Due)) (file new_file : Option (Option (List ℕ))) where
   none_left : (f : Failure) (k l : K) → f ≢ Fault Keeper → l ≡ k → new_file ≡ file → (left : HasLeft store ds (Err f) k l file new_file) × (left.calls.stores.stored ≡ [])
-  none_left f k l other is same = (record {
-    calls = record { stores = no_stores; at_failure = l; stored = is; failed = refl; failed_is = unfailed f other; files = no_files ds; some = tt; all = tt };
-    stays = subst (Stays file) (sym same) (stays_so file file (keeps_same file));
-    kept = λ none. subst (Keeps file) (sym same) (keeps_same file);
-    few = omega arith;
-  }, refl)
+  none_left f k l other is same = (
+    record {
+      calls = record { stores = no_stores; at_failure = l; stored = is; failed = refl; failed_is = unfailed f other; files = no_files ds; some = tt; all = tt };
+      stays = subst (Stays file) (sym same) (stays_so file file (keeps_same file));
+      kept = λ none. subst (Keeps file) (sym same) (keeps_same file);
+      few = omega arith;
+    },
+    refl,
+  )
 
   one_left : (r : Result (Unit {0}) Failure) (bytes : List ℕ) (k l : K) → store k bytes true l → IsFailedOf r None → AreDue ds (bytes ∷ []) → OnOk r (IfSome ds (λ ds. AreAllFilesOf ds (bytes ∷ []))) → device.Stores file new_file bytes → HasLeft store ds r k l file new_file
   one_left r bytes k l call none due all stored = record {

@@ -13,7 +13,7 @@ use Rattle.rls_seen.specs.Stands.{StandsFor}
 use Rattle.rls_seen.proofs.Alike.{greatest_alike}
 use Rattle.rls_replica.specs.Names.{KeepsNames, keeps}
 use Rattle.rls_replica.proofs.KeptNames.{accepted_names}
-use Rattle.rls_steps.specs.Forgetting.{forgotten, without_first}
+use Rattle.rls_steps.specs.Forgetting.{lightened, without_first, without_overfull}
 use Rattle.rls_steps.specs.Grounds.{over, within, begun_on, epoch_or, recorded_on, kept_on, settled_on}
 use Rattle.rls_steps.specs.GroundLaws as steps
 use Rattle.rls_steps.specs.Labelled.{Names}
@@ -44,7 +44,7 @@ steps_alike s r q h = record { same = h.same; kept = are_kept s r.epoch r.names 
 
 pub steps_begun : (s : Seen) (t : State) (r q : Recorded) → StandsFor s t → AreStepsAlike s r q → AreBegun s (begun_on over s r) (begun_on within t q)
 steps_begun s t r q p h = record {
-  same = ap (λ (e : EpochName). record { epoch = epoch_or r.names e r.epoch; next = r.next; names = r.names; past = r.past; future = r.future; group = r.group; after_sweep = r.after_sweep }) (greatest_alike s t p) ∙ ap (begun_on within t) h.same;
+  same = ap (λ (e : EpochName). record { epoch = epoch_or r.names e r.epoch; next = r.next; names = r.names; past = r.past; future = r.future; group = r.group; overfull = r.overfull; after_sweep = r.after_sweep }) (greatest_alike s t p) ∙ ap (begun_on within t) h.same;
   kept = go r.names h.kept;
   spelled = h.spelled;
 }
@@ -68,8 +68,12 @@ begun_after s n r q k h = record { same = h.same; kept = k r.epoch h.kept; spell
 kept_kept : (s : Seen) (steps chars : ℕ) (r : Recorded) → IsTrue (keeps s r.epoch) → IsTrue (keeps s (kept_on over s steps chars r).epoch)
 kept_kept s steps chars r k = go (nat_le (length r.names / 2) r.after_sweep)
   where
-    go : (b : Bool) → IsTrue (keeps s (cond b r (swept (idents_over s) (without_first (forgotten steps chars r.past) (settled_on over s r)))).epoch)
-    go true = k
+    rest : (b : Bool) → IsTrue (keeps s (cond b (without_first (length r.past) r) r).epoch)
+    rest true = k
+    rest false = k
+
+    go : (b : Bool) → IsTrue (keeps s (cond b (without_overfull r) (swept (idents_over s) (lightened steps chars (settled_on over s r)))).epoch)
+    go true = rest r.overfull
     go false = greatest_kept s.epochs.top s.epochs.nodes
 
 pub kept_steps : (s : Seen) (t : State) (r q : Recorded) → StandsFor s t → AreBegun s r q → AreStepsAlike s (kept_on over s KEPT_STEPS KEPT_CHARACTERS r) (kept_on within t KEPT_STEPS KEPT_CHARACTERS q)

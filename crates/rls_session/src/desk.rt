@@ -49,7 +49,7 @@ use std::marker::Model;
 /// How many edits can be undone that a session made before a store.
 pub const KEPT_ENTRIES: usize = 10_000;
 
-/// How many steps can be taken back: where there are more, the oldest groups are forgotten.
+/// How many steps can be taken back: where there are more, the oldest groups are forgotten, whole.
 pub const KEPT_STEPS: usize = 10_000;
 
 /// How many characters these steps put in or cut out, at most.

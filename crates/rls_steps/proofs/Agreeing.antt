@@ -1,5 +1,5 @@
 -- What is recorded over a replica's parts is what is recorded over each history that the replica stands for.
-use Rattle.std.proofs.Common.{◌≡◌, ℕ, zero, suc, ◌+◌, ◌-◌, ◌<◌, ◌^◌, Bool, List, [], ◌∷◌, ◌++◌, map, length, take, drop, refl, sym, ap, ◌∙◌, subst, arith}
+use Rattle.std.proofs.Common.{◌≡◌, ℕ, zero, suc, ◌+◌, ◌-◌, ◌<◌, ◌^◌, Bool, true, false, List, [], ◌∷◌, ◌++◌, map, length, take, drop, refl, sym, ap, ◌∙◌, subst, arith}
 use Rattle.std.specs.Prelude.{IsTrue, nat_le, ◌/◌, zip, reverse, slice_get, Option, Some, None, if◌then◌else◌}
 use Rattle.std.specs.Char.{IsScalar}
 use Rattle.std.proofs.lemmas.List.{reverse-append}
@@ -40,11 +40,11 @@ use Rattle.rls_undo.proofs.Performed.{delete_edit}
 use Rattle.rls_steps.specs.declared.piece.Step.{Step}
 use Rattle.rls_steps.specs.Marks.{Mark, Piece, Put, Cut, label_places, return_place, numbers_from}
 use Rattle.rls_steps.specs.Labelled.{Names, label_of, mark, labels_in, label_at, left_of, inserted_by}
-use Rattle.rls_steps.specs.Courses.{below_or_none, ident_of}
+use Rattle.rls_steps.specs.Courses.{below_or_none, ident_of, or_empty}
 use Rattle.rls_steps.specs.Groups.{group_size, next_group}
 use Rattle.rls_steps.specs.Parts.{parts, parts_of, last_label}
 use Rattle.rls_steps.specs.Recorded.{Recorded, steps_of}
-use Rattle.rls_steps.specs.Forgetting.{forgotten, without_first}
+use Rattle.rls_steps.specs.Forgetting.{leaving, lightened, without_first, without_overfull}
 use Rattle.rls_steps.specs.Sweeping.{swept, kept_in}
 use Rattle.rls_steps.specs.Grounds.{over, within, Held, labelled_on, labels_on, marks_on, put_on, ready_on, cut_on, piece_on, ranges_on, gone_on, place_on, Left, cuts_on, taken_on, Stand, steps_on, names_on, held_on, settled_on, added_on, Turned, back_on, exchanged}
 use Rattle.rls_steps.specs.GroundLaws.{IsSpelled, AreSpelled, IsWhole, AreAlike, TurnedAlike, RecordedAlike, KeptAlike}
@@ -159,8 +159,13 @@ place_to h t left right p =
 pub taken_to : (h : Held Seen) (t : State) (x : Piece) → StandsFor h.state t → IsSane h.state → IsSpelled x → IsSame h (taken_on over h x) (taken_on within (to h t) x)
 unfolding AreAll
 taken_to h t (Put labels) p s w =
-    subst (λ (rs : List (ℕ × ℕ)). IsSame h (taken_on over h (Put labels)) (cuts_on within (to h t) rs [])) (sym (ranges_to h t labels p))
-    (cuts_to h t (ranges_on over h labels) [] p s tt)
+    let rs = ranges_on over h labels in
+    subst (λ (rs : List (ℕ × ℕ)). IsSame h (taken_on over h (Put labels)) (cuts_on within (to h t) rs (or_empty rs []))) (sym (ranges_to h t labels p))
+    (cuts_to h t rs (or_empty rs []) p s (empty_spelled rs))
+  where
+    empty_spelled : (rs : List (ℕ × ℕ)) → AreAll (or_empty rs [])
+    empty_spelled [] = (tt, tt)
+    empty_spelled (r ∷ rs) = tt
 taken_to h t (Cut labels cs left right) p s w =
     let at = place_on over h left right in
     let e = edits.Insert at cs in
@@ -273,7 +278,7 @@ held_to s t r p k = ap (λ (ns : Names). record { state = t; next = r.next; name
 
 pub settled_to : (s : Seen) (t : State) (r : Recorded) → StandsFor s t → IsTrue (keeps s r.epoch) → settled_on over s r ≡ settled_on within t r
 settled_to s t r p k =
-    let there : EpochName → Names → Recorded = λ e ns. record { epoch = e; next = r.next; names = ns; past = r.past; future = r.future; group = r.group; after_sweep = r.after_sweep } in
+    let there : EpochName → Names → Recorded = λ e ns. record { epoch = e; next = r.next; names = ns; past = r.past; future = r.future; group = r.group; overfull = r.overfull; after_sweep = r.after_sweep } in
     ap (λ (e : EpochName). there e (names_on over s r.epoch r.names)) (greatest_alike s t p) ∙ ap (there (greatest t.history)) (sym (names_to s t r.epoch r.names p k))
 
 back_alike : (s : Seen) (t : State) (r : Recorded) → StandsFor s t → IsSane s → IsTrue (keeps s r.epoch) → IsWhole r → AreAlike (back_on over s r) (back_on within t r)
@@ -282,7 +287,7 @@ back_alike s t r p sane kept w =
     let h = held_on over s r in
     let i = steps_to n h t (reverse r.past) r.future p sane (spelled_back r.past w.0) w.1 in
     let a = steps_on over n h (reverse r.past) r.future in
-    let left : EpochName → ℕ → Names → List Step → List Step → Recorded = λ e m ns xs ys. record { epoch = e; next = m; names = reverse ns; past = reverse xs; future = ys; group = next_group r.group; after_sweep = r.after_sweep } in
+    let left : EpochName → ℕ → Names → List Step → List Step → Recorded = λ e m ns xs ys. record { epoch = e; next = m; names = reverse ns; past = reverse xs; future = ys; group = next_group r.group; overfull = false; after_sweep = r.after_sweep } in
     let later : Stand State → Turned State = λ y. record { steps = n; fault = y.fault; state = y.held.state; recorded = left (greatest t.history) y.held.next y.held.names y.from y.to } in
     let there : back_on within t r ≡ later (record { held = to a.held i.after; from = a.from; to = a.to; fault = a.fault }) =
     ap (λ (z : Held State). later (steps_on within n z (reverse r.past) r.future)) (held_to s t r p kept) ∙ ap later i.is in
@@ -306,7 +311,7 @@ turned_alike s t r p sane kept w =
 
 added_to : (s : Seen) (t : State) (r : Recorded) (h : Held Seen) (n : State) (more : List Step) → StandsFor s t → added_on over s r h more ≡ added_on within t r (to h n) more
 added_to s t r h n more p =
-    ap (λ (e : EpochName). record { epoch = e; next = h.next; names = reverse h.names; past = r.past ++ more; future = []; group = r.group; after_sweep = r.after_sweep }) (greatest_alike s t p)
+    ap (λ (e : EpochName). record { epoch = e; next = h.next; names = reverse h.names; past = r.past ++ more; future = []; group = r.group; overfull = r.overfull; after_sweep = r.after_sweep }) (greatest_alike s t p)
 
 pub recorded_alike : RecordedAlike
 recorded_alike s t (edits.Insert at cs) r p kept w =
@@ -336,10 +341,14 @@ recorded_alike s t edits.Leave r p kept w = (refl, w)
 
 pub kept_alike : KeptAlike
 kept_alike s t steps chars r p kept w =
-    let n = forgotten steps chars r.past in
-    let swept_at = swept (idents_over s) (without_first n (settled_on over s r)) in (
+    let n = leaving steps chars r in
+    let swept_at = swept (idents_over s) (lightened steps chars (settled_on over s r)) in (
       ap (λ (z : Recorded). kept_in (idents_over s) z steps chars r) (settled_to s t r p kept) ∙ ap (λ (xs : List (List Tuple)). kept_in xs (settled_on within t r) steps chars r) (idents_alike s t p),
       bool_cases (nat_le (length r.names / 2) r.after_sweep)
-          (λ b. subst (λ (c : Bool). IsWhole (if c then r else swept_at)) (sym b) w)
-          (λ b. subst (λ (c : Bool). IsWhole (if c then r else swept_at)) (sym b) (spelled_drop n r.past w.0, w.1)),
+          (λ b. subst (λ (c : Bool). IsWhole (if c then without_overfull r else swept_at)) (sym b) (rest r.overfull))
+          (λ b. subst (λ (c : Bool). IsWhole (if c then without_overfull r else swept_at)) (sym b) (spelled_drop n r.past w.0, w.1)),
     )
+  where
+    rest : (b : Bool) → IsWhole (if b then without_first (length r.past) r else r)
+    rest true = (spelled_drop (length r.past) r.past w.0, w.1)
+    rest false = w

@@ -16,7 +16,7 @@ use Rattle.rls_undo.specs.Plans.{ranges_of}
 use Rattle.rls_steps.specs.Marks.{Unknown, marks, Piece, Put, Cut, label_places}
 use Rattle.rls_steps.specs.Back.{AreDistinct}
 use Rattle.rls_steps.specs.Labelled.{Labelled, marked, marked_by, IsLabelled, Leads, ready_over, cut_over, cut_piece}
-use Rattle.rls_steps.specs.Courses.{copies, UndoneAndRedone, Taken, cut_ranges, gone_place, taken_back, FitRanges, FitsBack, FitsFirst, Steps, Move, Insertion, Deletion, Back, Again, Renaming, stepped_back, stepped_again, moved, MayMove, at_first, Copies, copied_back, copied_again, copied, Shows, AsCopied, AsCopiedFromFirst}
+use Rattle.rls_steps.specs.Courses.{copies, UndoneAndRedone, Taken, cut_ranges, or_empty, gone_place, taken_back, FitRanges, FitsBack, FitsFirst, Steps, Move, Insertion, Deletion, Back, Again, Renaming, stepped_back, stepped_again, moved, MayMove, at_first, Copies, copied_back, copied_again, copied, Shows, AsCopied, AsCopiedFromFirst}
 use Rattle.rls_steps.proofs.Putting.{cut_taken_back}
 use Rattle.rls_steps.proofs.Renaming.{renaming_leads}
 use Rattle.rls_steps.proofs.Stepping.{insertion_leads, deletion_leads, put_taken_back, ready_seen}
@@ -35,7 +35,7 @@ taken h (Cut labels cs left right) ps qs t ts us i l k f =
 taken h (Put labels) ps qs t ts us i l k f = go (put_taken_back h labels ps qs t ts us i l k)
   where
     Out : List (ℕ × ℕ) → Type 0
-    Out rs = FitRanges h (reverse rs) → IsTaken h (cut_ranges h (reverse rs) qs) ps t ts us
+    Out rs = FitRanges h (reverse rs) → IsTaken h (cut_ranges h (reverse rs) (or_empty (reverse rs) qs)) ps t ts us
 
     go : (at : ℕ) × (ranges_of (label_places 0 labels (marks (marked h))) ≡ (at, length labels) ∷ [])
         × (IsEdit (edits.Delete at (length labels)) → edit_fault_over h.seen (edits.Delete at (length labels)) ≡ None →

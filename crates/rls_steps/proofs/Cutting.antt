@@ -1,5 +1,5 @@
 -- Ranges that are cut out, one after another.
-use Rattle.std.proofs.Common.{◌≡◌, ℕ, zero, suc, ◌+◌, List, [], ◌∷◌, ◌++◌, take, drop, sym, ap, ◌∙◌, subst, append_assoc, arith}
+use Rattle.std.proofs.Common.{◌≡◌, ℕ, zero, suc, ◌+◌, List, [], ◌∷◌, ◌++◌, length, take, drop, refl, sym, ap, ◌∙◌, subst, append_assoc, arith}
 use Rattle.std.specs.Prelude.{slice_get, Option, Some, None}
 use Rattle.std.proofs.lemmas.List.{take-append-drop}
 use Rattle.rls_ident.proofs.Loops.{drop_reads}
@@ -13,7 +13,7 @@ use Rattle.rls_seen.specs.Edits.{edit_fault_over, IsFault}
 use Rattle.rls_steps.specs.declared.piece.Step.{Step}
 use Rattle.rls_steps.specs.Marks.{Piece, Put, Cut}
 use Rattle.rls_steps.specs.Labelled.{Labelled, ready_over, cut_over, cut_piece, put_over}
-use Rattle.rls_steps.specs.Courses.{Taken, cut_ranges, place_over, taken_back, Fits, FitRanges, FitsBack}
+use Rattle.rls_steps.specs.Courses.{Taken, cut_ranges, or_empty, place_over, ranges_over, taken_back, Fits, FitRanges, FitsBack}
 use Rattle.rls_steps.specs.Recorded.{steps_of}
 use Rattle.rls_steps.specs.Returning.{first_fault, ranges_fault, back_fault, IsPartCut}
 use Rattle.rls_steps.proofs.Stacks.{cut_same, cut_more, fit_more, steps_more}
@@ -87,14 +87,33 @@ part_cut h g rs i group r e base other a f q m o = record {
   others = o;
 }
 
--- all ranges were cut out
-pub record IsCutAll (h : Labelled) (rs : List (ℕ × ℕ)) (group : ℕ) (base new : List Step) (k : Labelled) : Type 0 where
-  pub fit : FitRanges h rs
-  pub held : k ≡ (cut_ranges h rs []).held
-  pub stack : new ≡ base ++ steps_of group (cut_ranges h rs []).other
+-- ---- what was put in is out
 
-pub cut_same_ranges : (h k : Labelled) (rs ss : List (ℕ × ℕ)) (group : ℕ) (base new : List Step) → rs ≡ ss → FitRanges h rs → k ≡ (cut_ranges h rs []).held → new ≡ base ++ steps_of group (cut_ranges h rs []).other → IsCutAll h ss group base new k
-cut_same_ranges h k rs ss group base new e f q o = subst (λ (ts : List (ℕ × ℕ)). IsCutAll h ts group base new k) e (record { fit = f; held = q; stack = o })
+pub record IsOut (h : Labelled) (labels : List ℕ) (group : ℕ) (base new : List Step) (k : Labelled) : Type 0 where
+  pub fits : FitsBack h (Put labels)
+  pub held : k ≡ (taken_back h (Put labels) []).held
+  pub stack : new ≡ base ++ steps_of group (taken_back h (Put labels) []).other
+
+-- by its ranges
+abbrev AreOut : Labelled → Labelled → ℕ → List Step → List Step → List (ℕ × ℕ) → Type 0
+AreOut h k group base new rs = let t = cut_ranges h rs (or_empty rs []) in FitRanges h rs × (k ≡ t.held) × (new ≡ base ++ steps_of group t.other)
+
+are_out : (h k : Labelled) (labels : List ℕ) (rs : List (ℕ × ℕ)) (group : ℕ) (base new : List Step) → rs ≡ ranges_over h labels → AreOut h k group base new rs → IsOut h labels group base new k
+are_out h k labels rs group base new e a = let b = subst (AreOut h k group base new) e a in record { fits = b.0; held = b.1; stack = b.2 }
+
+-- all were cut out
+pub some_out : (h k : Labelled) (labels : List ℕ) (rs : List (ℕ × ℕ)) (group : ℕ) (base new : List Step) → rs ≡ ranges_over h labels → (length rs ≡ 0 → ⊥) → FitRanges h rs → k ≡ (cut_ranges h rs []).held →
+    new ≡ base ++ steps_of group (cut_ranges h rs []).other → IsOut h labels group base new k
+some_out h k labels [] group base new e some f q o = absurd (some refl)
+some_out h k labels (r ∷ rs) group base new e some f q o = are_out h k labels (r ∷ rs) group base new e (f, q, o)
+
+-- there was none
+pub no_ranges : (h : Labelled) (labels : List ℕ) (rs : List (ℕ × ℕ)) → rs ≡ ranges_over h labels → length rs ≡ 0 → [] ≡ ranges_over h labels
+no_ranges h labels [] e none = e
+no_ranges h labels (r ∷ rs) e none = absurd (omega (arith, none))
+
+pub none_out : (h : Labelled) (labels : List ℕ) (rs : List (ℕ × ℕ)) (group : ℕ) (base new : List Step) → rs ≡ ranges_over h labels → length rs ≡ 0 → new ≡ base ++ record { group = group; piece = Put [] } ∷ [] → IsOut h labels group base new h
+none_out h labels rs group base new e none o = are_out h h labels [] group base new (no_ranges h labels rs e none) (tt, refl, o)
 
 -- ---- what was cut out is back
 

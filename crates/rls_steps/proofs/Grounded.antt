@@ -16,7 +16,7 @@ use Rattle.rls_undo.specs.Undoing.{unless}
 use Rattle.rls_steps.specs.declared.piece.Step.{Step}
 use Rattle.rls_steps.specs.Marks.{Mark, marks, Piece, Put, Cut, label_places, return_place, numbers_from}
 use Rattle.rls_steps.specs.Labelled.{Names, Labelled, label_of, marked, new_label, label_all, labels_in, label_at, left_of, ready_over, cut_over, cut_piece, put_over, insert_over}
-use Rattle.rls_steps.specs.Courses.{cut_ranges, ranges_over, gone_place, place_over, taken_back, FitRanges, FitsBack}
+use Rattle.rls_steps.specs.Courses.{cut_ranges, or_empty, ranges_over, gone_place, place_over, taken_back, FitRanges, FitsBack}
 use Rattle.rls_steps.specs.Grounds.{over, Held, held_at, held_on, names_on, added_on, recorded_on, Turned, back_on, labelled_on, labels_on, marks_on, put_on, ready_on, cut_on, piece_on, ranges_on, gone_on, place_on, Left, cuts_on, taken_on, Stand, steps_on}
 use Rattle.rls_steps.specs.Groups.{group_size, next_group}
 use Rattle.rls_steps.specs.Parts.{parts}
@@ -77,8 +77,8 @@ cuts_fit h (r ∷ rs) rest qs f =
     ∙ (ap (λ (y : Held Seen). later y (piece_on over y r.0 r.1 ∷ qs)) (on_ready h r.0 r.1)
     ∙ (ap (λ (p : Piece). later (on g) (p ∷ qs)) (on_piece g r.0 r.1) ∙ cuts_fit (cut_over g r.0 r.1) rs rest (cut_piece g r.0 r.1 ∷ qs) f.1))
 
-cuts_all : (h : Labelled) (rs : List (ℕ × ℕ)) → FitRanges h rs → cuts_on over (on h) rs [] ≡ left_at (cut_ranges h rs []).held (cut_ranges h rs []).other None
-cuts_all h rs f = ap (λ (ss : List (ℕ × ℕ)). cuts_on over (on h) ss []) (sym (append-nil rs)) ∙ cuts_fit h rs [] [] f
+cuts_all : (h : Labelled) (rs : List (ℕ × ℕ)) (qs : List Piece) → FitRanges h rs → cuts_on over (on h) rs qs ≡ left_at (cut_ranges h rs qs).held (cut_ranges h rs qs).other None
+cuts_all h rs qs f = ap (λ (ss : List (ℕ × ℕ)). cuts_on over (on h) ss qs) (sym (append-nil rs)) ∙ cuts_fit h rs [] qs f
 
 met : (h : Labelled) (rest : List (ℕ × ℕ)) (qs : List Piece) (e : EditError) → first_fault h rest ≡ Some e → cuts_on over (on h) rest qs ≡ left_at h qs (Some e)
 met h [] qs e q = absurd (cc)
@@ -87,7 +87,9 @@ met h (r ∷ rs) qs e q =
     ap (λ (o : Option EditError). unless o (left_at h qs o) (cuts_on over (cut_on over z r.0 r.1) rs (piece_on over z r.0 r.1 ∷ qs))) q
 
 pub taken_fit : (h : Labelled) (p : Piece) → FitsBack h p → taken_on over (on h) p ≡ left_at (taken_back h p []).held (taken_back h p []).other None
-taken_fit h (Put labels) f = ap (λ (rs : List (ℕ × ℕ)). cuts_on over (on h) rs []) (on_ranges h labels) ∙ cuts_all h (ranges_over h labels) f
+taken_fit h (Put labels) f =
+    let rs = ranges_over h labels in
+    ap (λ (ss : List (ℕ × ℕ)). cuts_on over (on h) ss (or_empty ss [])) (on_ranges h labels) ∙ cuts_all h rs (or_empty rs []) f
 taken_fit h (Cut labels cs left right) f =
     let back : ℕ → Left Seen = λ at. left_at (put_over h at labels cs) (Put labels ∷ []) None in
     ap (λ (at : ℕ). unless (edit_fault_over h.seen (edits.Insert at cs)) (left_at h [] (edit_fault_over h.seen (edits.Insert at cs))) (back at)) (on_place h left right)
@@ -115,11 +117,18 @@ taken_stop e h (Put labels) new group old other n f part =
     let all : ranges_on over (on h) labels ≡ part.front ++ part.rest = on_ranges h labels ∙ part.are in
     record {
       pieces = t.other;
-      is = ap (λ (rs : List (ℕ × ℕ)). cuts_on over (on h) rs []) all
+      is = ap (λ (rs : List (ℕ × ℕ)). cuts_on over (on h) rs (or_empty rs [])) all
+          ∙ (ap (λ (qs : List Piece). cuts_on over (on h) (part.front ++ part.rest) qs) (some part.front part.rest q)
           ∙ (cuts_fit h part.front part.rest [] part.fit
-          ∙ (ap (λ (z : Labelled). cuts_on over (on z) part.rest t.other) (sym part.held) ∙ met new part.rest t.other e q));
+          ∙ (ap (λ (z : Labelled). cuts_on over (on z) part.rest t.other) (sym part.held) ∙ met new part.rest t.other e q)));
       stack = part.others;
     }
+  where
+    -- a range was refused, so there is one
+    some : (front rest : List (ℕ × ℕ)) → first_fault new rest ≡ Some e → or_empty (front ++ rest) [] ≡ []
+    some [] [] q = absurd (cc)
+    some [] (r ∷ rest) q = refl
+    some (r ∷ front) rest q = refl
 taken_stop e h (Cut labels cs left right) new group old other n f part =
     let q = is_fault e (back_fault h (Cut labels cs left right)) n f in
     let back : ℕ → Left Seen = λ at. left_at (put_over h at labels cs) (Put labels ∷ []) None in
@@ -166,13 +175,13 @@ none_left (suc n) b f e = absurd (true_false b (f (omega arith)) e)
 
 -- ---- what is recorded of an edit
 
-record_is : (e f : EpochName) (i j : ℕ) (ns ms : Names) (ps qs us vs : List Step) (group after : ℕ) → e ≡ f → i ≡ j → ns ≡ ms → ps ≡ qs → us ≡ vs →
-    record_of e i ns ps us group after ≡ record_of f j ms qs vs group after
-record_is e f i j ns ms ps qs us vs group after a b c d u =
-    ap (λ (x : EpochName). record_of x i ns ps us group after) a
-    ∙ (ap (λ (x : ℕ). record_of f x ns ps us group after) b
-    ∙ (ap (λ (x : Names). record_of f j x ps us group after) c
-    ∙ (ap (λ (x : List Step). record_of f j ms x us group after) d ∙ ap (λ (x : List Step). record_of f j ms qs x group after) u)))
+record_is : (e f : EpochName) (i j : ℕ) (ns ms : Names) (ps qs us vs : List Step) (group : ℕ) (overfull : Bool) (after : ℕ) → e ≡ f → i ≡ j → ns ≡ ms → ps ≡ qs → us ≡ vs →
+    record_of e i ns ps us group overfull after ≡ record_of f j ms qs vs group overfull after
+record_is e f i j ns ms ps qs us vs group overfull after a b c d u =
+    ap (λ (x : EpochName). record_of x i ns ps us group overfull after) a
+    ∙ (ap (λ (x : ℕ). record_of f x ns ps us group overfull after) b
+    ∙ (ap (λ (x : Names). record_of f j x ps us group overfull after) c
+    ∙ (ap (λ (x : List Step). record_of f j ms x us group overfull after) d ∙ ap (λ (x : List Step). record_of f j ms qs x group overfull after) u)))
 
 at_names : (h k : Labelled) → h ≡ k → reverse h.names ≡ reverse k.names
 at_names h k e = ap (λ (x : Labelled). reverse x.names) e
@@ -180,35 +189,35 @@ at_names h k e = ap (λ (x : Labelled). reverse x.names) e
 names_at : (s : Seen) (next : ℕ) (names : Names) (k : Labelled) → held_by s next names ≡ k → names ≡ reverse k.names
 names_at s next names k e = sym (reverse-reverse names) ∙ at_names (held_by s next names) k e
 
-held_there : (s : Seen) (e : EpochName) (next : ℕ) (names : Names) (past future : List Step) (group after : ℕ) → e ≡ greatest_over s →
-    held_on over s (record { epoch = e; next = next; names = names; past = past; future = future; group = group; after_sweep = after }) ≡ held_at s next names
-held_there s e next names past future group after q = ap (λ (ns : Names). held_at s next ns) (names_there s e names q)
+held_there : (s : Seen) (e : EpochName) (next : ℕ) (names : Names) (past future : List Step) (group : ℕ) (overfull : Bool) (after : ℕ) → e ≡ greatest_over s →
+    held_on over s (record { epoch = e; next = next; names = names; past = past; future = future; group = group; overfull = overfull; after_sweep = after }) ≡ held_at s next names
+held_there s e next names past future group overfull after q = ap (λ (ns : Names). held_at s next ns) (names_there s e names q)
 
-pub insert_exact : (s n : Seen) (e : EpochName) (next more : ℕ) (names names' : Names) (past past' future future' : List Step) (group after at : ℕ) (cs : List ℕ) → e ≡ greatest_over s →
+pub insert_exact : (s n : Seen) (e : EpochName) (next more : ℕ) (names names' : Names) (past past' future future' : List Step) (group : ℕ) (overfull : Bool) (after at : ℕ) (cs : List ℕ) → e ≡ greatest_over s →
     held_by n more names' ≡ insert_over (held_by s next names) at cs → past' ≡ past ++ record { group = group; piece = Put (numbers_from next (length cs)) } ∷ [] → future' ≡ [] →
-    record { epoch = e; next = more; names = names'; past = past'; future = future'; group = group; after_sweep = after }
-    ≡ recorded_on over s (edits.Insert at cs) (record { epoch = e; next = next; names = names; past = past; future = future; group = group; after_sweep = after })
-insert_exact s n e next more names names' past past' future future' group after at cs q h p z =
+    record { epoch = e; next = more; names = names'; past = past'; future = future'; group = group; overfull = overfull; after_sweep = after }
+    ≡ recorded_on over s (edits.Insert at cs) (record { epoch = e; next = next; names = names; past = past; future = future; group = group; overfull = overfull; after_sweep = after })
+insert_exact s n e next more names names' past past' future future' group overfull after at cs q h p z =
     let k = insert_over (held_by s next names) at cs in
     let there : names_on over s e names ≡ names = names_there s e names q in
-    let r : Recorded = record { epoch = e; next = next; names = names; past = past; future = future; group = group; after_sweep = after } in
+    let r : Recorded = record { epoch = e; next = next; names = names; past = past; future = future; group = group; overfull = overfull; after_sweep = after } in
     let labels = numbers_from next (length cs) in
     let later : Names → Recorded = λ ns. added_on over s r (put_on over (record { state = s; next = length cs + next; names = reverse ns }) at labels cs) (record { group = group; piece = Put labels } ∷ []) in
-    record_is e (greatest_over s) more k.next names' (reverse k.names) past' (past ++ record { group = group; piece = Put labels } ∷ []) future' [] group after q (ap (λ (x : Labelled). x.next) h) (names_at n more names' k h) p z
+    record_is e (greatest_over s) more k.next names' (reverse k.names) past' (past ++ record { group = group; piece = Put labels } ∷ []) future' [] group overfull after q (ap (λ (x : Labelled). x.next) h) (names_at n more names' k h) p z
     ∙ ap later (sym there)
 
-pub delete_exact : (s n : Seen) (e : EpochName) (next more : ℕ) (names names' : Names) (past past' future future' : List Step) (group after at count : ℕ) → e ≡ greatest_over s →
+pub delete_exact : (s n : Seen) (e : EpochName) (next more : ℕ) (names names' : Names) (past past' future future' : List Step) (group : ℕ) (overfull : Bool) (after at count : ℕ) → e ≡ greatest_over s →
     held_by n more names' ≡ cut_over (ready_over (held_by s next names) at count) at count → past' ≡ past ++ steps_of group (parts (cut_piece (ready_over (held_by s next names) at count) at count)) → future' ≡ [] →
-    record { epoch = e; next = more; names = names'; past = past'; future = future'; group = group; after_sweep = after }
-    ≡ recorded_on over s (edits.Delete at count) (record { epoch = e; next = next; names = names; past = past; future = future; group = group; after_sweep = after })
-delete_exact s n e next more names names' past past' future future' group after at count q h p z =
+    record { epoch = e; next = more; names = names'; past = past'; future = future'; group = group; overfull = overfull; after_sweep = after }
+    ≡ recorded_on over s (edits.Delete at count) (record { epoch = e; next = next; names = names; past = past; future = future; group = group; overfull = overfull; after_sweep = after })
+delete_exact s n e next more names names' past past' future future' group overfull after at count q h p z =
     let g = ready_over (held_by s next names) at count in
     let k = cut_over g at count in
-    let r : Recorded = record { epoch = e; next = next; names = names; past = past; future = future; group = group; after_sweep = after } in
+    let r : Recorded = record { epoch = e; next = next; names = names; past = past; future = future; group = group; overfull = overfull; after_sweep = after } in
     let later : Held Seen → Recorded = λ x. added_on over s r x (steps_of group (parts (piece_on over x at count))) in
-    record_is e (greatest_over s) more k.next names' (reverse k.names) past' (past ++ steps_of group (parts (cut_piece g at count))) future' [] group after q (ap (λ (x : Labelled). x.next) h) (names_at n more names' k h) p z
+    record_is e (greatest_over s) more k.next names' (reverse k.names) past' (past ++ steps_of group (parts (cut_piece g at count))) future' [] group overfull after q (ap (λ (x : Labelled). x.next) h) (names_at n more names' k h) p z
     ∙ (sym (ap (λ (x : Piece). added_on over s r (on g) (steps_of group (parts x))) (on_piece g at count))
-    ∙ (sym (ap later (on_ready (held_by s next names) at count)) ∙ sym (ap (λ (x : Held Seen). later (ready_on over x at count)) (held_there s e next names past future group after q))))
+    ∙ (sym (ap later (on_ready (held_by s next names) at count)) ∙ sym (ap (λ (x : Held Seen). later (ready_on over x at count)) (held_there s e next names past future group overfull after q))))
 
 -- ---- everything is in the greatest epoch
 
@@ -234,10 +243,10 @@ recorded_settled s edits.Leave r i = absurd i
 
 -- ---- a group
 
-pub turned_exact : (s n : Seen) (r w q : Recorded) (f : Option EditError) → IsReadied s r w → w.group ≡ next_group r.group → w.after_sweep ≡ r.after_sweep → q.epoch ≡ w.epoch → q.group ≡ w.group → q.after_sweep ≡ w.after_sweep →
+pub turned_exact : (s n : Seen) (r w q : Recorded) (f : Option EditError) → IsReadied s r w → w.group ≡ next_group r.group → w.overfull ≡ false → w.after_sweep ≡ r.after_sweep → q.epoch ≡ w.epoch → q.group ≡ w.group → q.overfull ≡ w.overfull → q.after_sweep ≡ w.after_sweep →
     steps_on over (group_size w.past) (held_at s w.next w.names) (reverse w.past) w.future ≡ record { held = held_at n q.next q.names; from = reverse q.past; to = q.future; fault = f } →
     back_on over s r ≡ record { steps = group_size r.past; fault = f; state = n; recorded = q }
-turned_exact s n r w q f i g a e k b x =
+turned_exact s n r w q f i g o a e k u b x =
     let t = steps_on over (group_size r.past) (held_on over s r) (reverse r.past) r.future in
     let was : t ≡ steps_on over (group_size w.past) (held_at s w.next w.names) (reverse w.past) w.future =
     ap (λ (xs : List Step). steps_on over (group_size xs) (held_on over s r) (reverse xs) r.future) (sym i.past)
@@ -249,10 +258,11 @@ turned_exact s n r w q f i g a e k b x =
       steps = group_size r.past;
       fault = y.fault;
       state = y.held.state;
-      recorded = record { epoch = greatest_over s; next = y.held.next; names = reverse y.held.names; past = reverse y.from; future = y.to; group = next_group r.group; after_sweep = r.after_sweep };
+      recorded = record { epoch = greatest_over s; next = y.held.next; names = reverse y.held.names; past = reverse y.from; future = y.to; group = next_group r.group; overfull = false; after_sweep = r.after_sweep };
     } in
     ap later now
     ∙ ap (λ (z : Recorded). record { steps = group_size r.past; fault = f; state = n; recorded = z })
-    (record_is (greatest_over s) q.epoch q.next q.next (reverse (reverse q.names)) q.names (reverse (reverse q.past)) q.past q.future q.future (next_group r.group) r.after_sweep (sym (e ∙ i.epoch)) refl (reverse-reverse q.names) (reverse-reverse q.past) refl
-    ∙ (ap (λ (j : ℕ). record { epoch = q.epoch; next = q.next; names = q.names; past = q.past; future = q.future; group = j; after_sweep = r.after_sweep }) (sym (k ∙ g))
-    ∙ ap (λ (j : ℕ). record { epoch = q.epoch; next = q.next; names = q.names; past = q.past; future = q.future; group = q.group; after_sweep = j }) (sym (b ∙ a))))
+    (record_is (greatest_over s) q.epoch q.next q.next (reverse (reverse q.names)) q.names (reverse (reverse q.past)) q.past q.future q.future (next_group r.group) false r.after_sweep (sym (e ∙ i.epoch)) refl (reverse-reverse q.names) (reverse-reverse q.past) refl
+    ∙ (ap (λ (j : ℕ). record { epoch = q.epoch; next = q.next; names = q.names; past = q.past; future = q.future; group = j; overfull = false; after_sweep = r.after_sweep }) (sym (k ∙ g))
+    ∙ (ap (λ (b : Bool). record { epoch = q.epoch; next = q.next; names = q.names; past = q.past; future = q.future; group = q.group; overfull = b; after_sweep = r.after_sweep }) (sym (u ∙ o))
+    ∙ ap (λ (j : ℕ). record { epoch = q.epoch; next = q.next; names = q.names; past = q.past; future = q.future; group = q.group; overfull = q.overfull; after_sweep = j }) (sym (b ∙ a)))))

@@ -38,17 +38,17 @@ pub record IsPut (edit : Edit) (s n : Seen) (r q : Recorded) : Type 0 where
 
 pub insert_step : (edit : Edit) (count : ℕ) (s n : Seen) (r w : Recorded) (more : ℕ) (names : Names) (past future : List Step) → IsInsertion edit count → w ≡ r → r.epoch ≡ greatest_over s → future ≡ [] →
     n ≡ edited s edit → more ≡ w.next + count → reverse names ≡ zip (inserted_by (made_over s edit).body) (numbers_from w.next count) ++ reverse w.names → past ≡ w.past ++ record { group = w.group; piece = Put (numbers_from w.next count) } ∷ [] →
-    IsPut edit s n r (record { epoch = w.epoch; next = more; names = names; past = past; future = future; group = w.group; after_sweep = w.after_sweep })
+    IsPut edit s n r (record { epoch = w.epoch; next = more; names = names; past = past; future = future; group = w.group; overfull = w.overfull; after_sweep = w.after_sweep })
 insert_step (edits.Insert at cs) count s n r w more names past future i v q z a m h p =
     let there : w.epoch ≡ greatest_over s = ap (λ (x : Recorded). x.epoch) v ∙ q in
     let same : n.epochs ≡ s.epochs = ap (λ (x : Seen). x.epochs) a ∙ insert_epochs s at cs in
     let held = insert_held s n w.next more count w.names names at cs i a m h in
     let put : past ≡ w.past ++ put_step w.group w.next (length cs) ∷ [] = p ∙ ap (λ (j : ℕ). w.past ++ put_step w.group w.next j ∷ []) i in
     record {
-      recorded = ap (λ (xs : List Step). steps_over n (record_of w.epoch more names past xs w.group w.after_sweep)) z
-          ∙ (insert_recorded s n w.epoch w.next more w.names names w.past past w.future w.group w.after_sweep at cs there same held put
+      recorded = ap (λ (xs : List Step). steps_over n (record_of w.epoch more names past xs w.group w.overfull w.after_sweep)) z
+          ∙ (insert_recorded s n w.epoch w.next more w.names names w.past past w.future w.group w.overfull w.after_sweep at cs there same held put
           ∙ ap (λ (x : Recorded). moved (steps_over s x) (Insertion at cs)) v);
-      exact = insert_exact s n w.epoch w.next more w.names names w.past past w.future future w.group w.after_sweep at cs there held put z ∙ ap (λ (x : Recorded). recorded_on over s (edits.Insert at cs) x) v;
+      exact = insert_exact s n w.epoch w.next more w.names names w.past past w.future future w.group w.overfull w.after_sweep at cs there held put z ∙ ap (λ (x : Recorded). recorded_on over s (edits.Insert at cs) x) v;
     }
 insert_step (edits.Delete at k) count s n r w more names past future i v q z a m h p = absurd i
 insert_step edits.Rename count s n r w more names past future i v q z a m h p = absurd i

@@ -17,7 +17,7 @@ use Rattle.rls_undo.proofs.Cutting.{cuts, cut_targets}
 use Rattle.rls_undo.proofs.Performed.{performed_cuts}
 use Rattle.rls_steps.specs.Marks.{marks, is_one_of, label_places, Piece, Put, Cut}
 use Rattle.rls_steps.specs.Labelled.{Names, Labelled, label_of, mark, marked, marked_by, new_label, label_all, ready_over, cut_over, cut_piece}
-use Rattle.rls_steps.specs.Courses.{cut_ranges, place_over, labelled_idents, FitRanges, TakesOwnAlone}
+use Rattle.rls_steps.specs.Courses.{cut_ranges, or_empty, place_over, labelled_idents, FitRanges, TakesOwnAlone}
 
 -- labels leave the replica as it is
 one_seen : (h : Labelled) (x : List Tuple) (o : Option ℕ) → (new_label o h x).seen ≡ h.seen
@@ -67,7 +67,8 @@ own_alone h (Put labels) qs sane f =
     let ts = labelled_idents h labels in
     let places = label_places 0 labels (marks (marked h)) in
     let same : places ≡ places_from 0 ts (idents_over s) = places_same h.names labels ts 0 s.text (λ e p. has_same h.names labels (idents_over s) e.0 (map_in (λ (x : Entry). x.0) e s.text p)) in
-    let seen = ranges_seen h (reverse (ranges_of places)) qs f in
+    let rs = reverse (ranges_of places) in
+    let seen = ranges_seen h rs (or_empty rs qs) f in
     let c = performed_cuts (ranges_of places) s sane seen.0 in
     ap (λ (u : Seen). u.text) seen.1 ∙ (c.text ∙ (ap (λ is. cuts (ranges_of is) s.text) same ∙ cut_targets ts s.text))
 own_alone h (Cut labels cs left right) qs sane f =

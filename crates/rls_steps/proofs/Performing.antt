@@ -21,6 +21,7 @@ use Rattle.rls_undo.proofs.Performed.{delete_edit}
 use Rattle.rls_steps.specs.declared.piece.Step.{Step}
 use Rattle.rls_steps.specs.Marks.{Piece, Put, Cut}
 use Rattle.rls_steps.specs.Labelled.{label_of}
+use Rattle.rls_steps.specs.Courses.{or_empty}
 use Rattle.rls_steps.specs.Groups.{group_size}
 use Rattle.rls_steps.specs.Recorded.{Recorded, steps_of}
 use Rattle.rls_steps.specs.Grounds.{Ground, over, within, Held, labelled_on, labels_on, put_on, ready_on, cut_on, piece_on, ranges_on, place_on, Left, cuts_on, taken_on, Stand, steps_on, held_on, back_on, again_on, exchanged, cut_edits, taken_edits, steps_edits, back_edits, again_edits}
@@ -81,7 +82,7 @@ cuts_done {X} G h (r ∷ rs) qs =
     go (Some x) es a i = none_done G h.state
 
 taken_done : {X : Type 0} (G : Ground X) (h : Held X) (x : Piece) → IsDone G h.state (taken_edits G h x) (taken_on G h x).held.state
-taken_done G h (Put labels) = cuts_done G h (ranges_on G h labels) []
+taken_done G h (Put labels) = let rs = ranges_on G h labels in cuts_done G h rs (or_empty rs [])
 taken_done {X} G h (Cut labels cs left right) =
     let at = place_on G h left right in
     let e = edits.Insert at cs in
@@ -157,7 +158,7 @@ cuts_well h (r ∷ rs) qs s =
     go (Some x) es a i = record { edits = tt; sane = s }
 
 taken_well : (h : Held Seen) (x : Piece) → IsSane h.state → IsSpelled x → IsWell (taken_edits over h x) (taken_on over h x).held.state
-taken_well h (Put labels) s w = cuts_well h (ranges_on over h labels) [] s
+taken_well h (Put labels) s w = let rs = ranges_on over h labels in cuts_well h rs (or_empty rs []) s
 taken_well h (Cut labels cs left right) s w =
     let at = place_on over h left right in
     go (edit_fault_over h.state (edits.Insert at cs))

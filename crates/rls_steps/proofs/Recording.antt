@@ -36,18 +36,18 @@ names_there s e names q = ap (there s e names) (ap (λ (f : EpochName). name_eq 
 
 -- ---- settled
 
-abbrev pub record_of : EpochName → ℕ → Names → List Step → List Step → ℕ → ℕ → Recorded
-record_of e next names past future group after = record { epoch = e; next = next; names = names; past = past; future = future; group = group; after_sweep = after }
+abbrev pub record_of : EpochName → ℕ → Names → List Step → List Step → ℕ → Bool → ℕ → Recorded
+record_of e next names past future group overfull after = record { epoch = e; next = next; names = names; past = past; future = future; group = group; overfull = overfull; after_sweep = after }
 
-pub settled_same : (s : Seen) (e : EpochName) (next : ℕ) (names : Names) (past future : List Step) (group after : ℕ) → name_eq e (greatest_over s) ≡ true →
-    record { epoch = e; next = next; names = names; past = past; future = future; group = group; after_sweep = after } ≡ settled s (record { epoch = e; next = next; names = names; past = past; future = future; group = group; after_sweep = after })
-settled_same s e next names past future group after t =
+pub settled_same : (s : Seen) (e : EpochName) (next : ℕ) (names : Names) (past future : List Step) (group : ℕ) (overfull : Bool) (after : ℕ) → name_eq e (greatest_over s) ≡ true →
+    record { epoch = e; next = next; names = names; past = past; future = future; group = group; overfull = overfull; after_sweep = after } ≡ settled s (record { epoch = e; next = next; names = names; past = past; future = future; group = group; overfull = overfull; after_sweep = after })
+settled_same s e next names past future group overfull after t =
     let q = name_eq_is e (greatest_over s) t in
-    ap (λ (f : EpochName). record_of f next names past future group after) q
-    ∙ sym (ap (λ (ns : Names). record_of (greatest_over s) next ns past future group after) (names_there s e names q))
+    ap (λ (f : EpochName). record_of f next names past future group overfull after) q
+    ∙ sym (ap (λ (ns : Names). record_of (greatest_over s) next ns past future group overfull after) (names_there s e names q))
 
 pub settled_once : (s : Seen) (r : Recorded) → settled s (settled s r) ≡ settled s r
-settled_once s r = ap (λ (ns : Names). record_of (greatest_over s) r.next ns r.past r.future r.group r.after_sweep) (names_there s (greatest_over s) (names_over s r.epoch r.names) refl)
+settled_once s r = ap (λ (ns : Names). record_of (greatest_over s) r.next ns r.past r.future r.group r.overfull r.after_sweep) (names_there s (greatest_over s) (names_over s r.epoch r.names) refl)
 
 abbrev steps_at : Seen → ℕ → List Step → List Step → Names → Steps
 steps_at s next past future names = record { held = held_by s next names; past = pieces_of past; future = pieces_of future }
@@ -57,46 +57,46 @@ steps_settled s r = ap (steps_at s r.next r.past r.future) (names_there s (great
 
 -- ---- at the greatest epoch
 
-steps_there : (s : Seen) (e : EpochName) (next : ℕ) (names : Names) (past future : List Step) (group after : ℕ) → e ≡ greatest_over s →
-    steps_over s (record { epoch = e; next = next; names = names; past = past; future = future; group = group; after_sweep = after }) ≡ steps_at s next past future names
-steps_there s e next names past future group after q = ap (steps_at s next past future) (names_there s e names q)
+steps_there : (s : Seen) (e : EpochName) (next : ℕ) (names : Names) (past future : List Step) (group : ℕ) (overfull : Bool) (after : ℕ) → e ≡ greatest_over s →
+    steps_over s (record { epoch = e; next = next; names = names; past = past; future = future; group = group; overfull = overfull; after_sweep = after }) ≡ steps_at s next past future names
+steps_there s e next names past future group overfull after q = ap (steps_at s next past future) (names_there s e names q)
 
 abbrev made : Labelled → List Piece → List Piece → Steps
 made h ps qs = record { held = h; past = ps; future = qs }
 
-pub insert_recorded : (s n : Seen) (e : EpochName) (next more : ℕ) (names names' : Names) (past past' future : List Step) (group after at : ℕ) (cs : List ℕ) → e ≡ greatest_over s → n.epochs ≡ s.epochs →
+pub insert_recorded : (s n : Seen) (e : EpochName) (next more : ℕ) (names names' : Names) (past past' future : List Step) (group : ℕ) (overfull : Bool) (after at : ℕ) (cs : List ℕ) → e ≡ greatest_over s → n.epochs ≡ s.epochs →
     held_by n more names' ≡ insert_over (held_by s next names) at cs → past' ≡ past ++ record { group = group; piece = Put (numbers_from next (length cs)) } ∷ [] →
-    steps_over n (record { epoch = e; next = more; names = names'; past = past'; future = []; group = group; after_sweep = after })
-    ≡ moved (steps_over s (record { epoch = e; next = next; names = names; past = past; future = future; group = group; after_sweep = after })) (Insertion at cs)
-insert_recorded s n e next more names names' past past' future group after at cs q k h p =
+    steps_over n (record { epoch = e; next = more; names = names'; past = past'; future = []; group = group; overfull = overfull; after_sweep = after })
+    ≡ moved (steps_over s (record { epoch = e; next = next; names = names; past = past; future = future; group = group; overfull = overfull; after_sweep = after })) (Insertion at cs)
+insert_recorded s n e next more names names' past past' future group overfull after at cs q k h p =
     let put = Put (numbers_from next (length cs)) in
     let ps : pieces_of past' ≡ put ∷ pieces_of past = ap pieces_of p ∙ pieces_more past (record { group = group; piece = put } ∷ []) in
-    steps_there n e more names' past' [] group after (q ∙ sym (same_greatest s n k))
+    steps_there n e more names' past' [] group overfull after (q ∙ sym (same_greatest s n k))
     ∙ (ap (λ (z : Labelled). made z (pieces_of past') []) h
-    ∙ (ap (λ (xs : List Piece). made (insert_over (held_by s next names) at cs) xs []) ps ∙ sym (ap (λ (st : Steps). moved st (Insertion at cs)) (steps_there s e next names past future group after q))))
+    ∙ (ap (λ (xs : List Piece). made (insert_over (held_by s next names) at cs) xs []) ps ∙ sym (ap (λ (st : Steps). moved st (Insertion at cs)) (steps_there s e next names past future group overfull after q))))
 
-pub delete_recorded : (s n : Seen) (e : EpochName) (next more : ℕ) (names names' : Names) (past past' future : List Step) (group after at count : ℕ) → e ≡ greatest_over s → n.epochs ≡ s.epochs →
+pub delete_recorded : (s n : Seen) (e : EpochName) (next more : ℕ) (names names' : Names) (past past' future : List Step) (group : ℕ) (overfull : Bool) (after at count : ℕ) → e ≡ greatest_over s → n.epochs ≡ s.epochs →
     held_by n more names' ≡ cut_over (ready_over (held_by s next names) at count) at count → past' ≡ past ++ steps_of group (parts (cut_piece (ready_over (held_by s next names) at count) at count)) →
-    steps_over n (record { epoch = e; next = more; names = names'; past = past'; future = []; group = group; after_sweep = after })
-    ≡ deleted (steps_over s (record { epoch = e; next = next; names = names; past = past; future = future; group = group; after_sweep = after })) at count
-delete_recorded s n e next more names names' past past' future group after at count q k h p =
+    steps_over n (record { epoch = e; next = more; names = names'; past = past'; future = []; group = group; overfull = overfull; after_sweep = after })
+    ≡ deleted (steps_over s (record { epoch = e; next = next; names = names; past = past; future = future; group = group; overfull = overfull; after_sweep = after })) at count
+delete_recorded s n e next more names names' past past' future group overfull after at count q k h p =
     let g = ready_over (held_by s next names) at count in
     let cuts = parts (cut_piece g at count) in
     let ps : pieces_of past' ≡ cuts ++ pieces_of past = ap pieces_of p ∙ (pieces_more past (steps_of group cuts) ∙ ap (λ (xs : List Piece). xs ++ pieces_of past) (pieces_back group cuts)) in
-    steps_there n e more names' past' [] group after (q ∙ sym (same_greatest s n k))
+    steps_there n e more names' past' [] group overfull after (q ∙ sym (same_greatest s n k))
     ∙ (ap (λ (z : Labelled). made z (pieces_of past') []) h
-    ∙ (ap (λ (xs : List Piece). made (cut_over g at count) xs []) ps ∙ sym (ap (λ (st : Steps). deleted st at count) (steps_there s e next names past future group after q))))
+    ∙ (ap (λ (xs : List Piece). made (cut_over g at count) xs []) ps ∙ sym (ap (λ (st : Steps). deleted st at count) (steps_there s e next names past future group overfull after q))))
 
-pub back_recorded : (s n : Seen) (e : EpochName) (next more : ℕ) (names names' : Names) (past past' future future' : List Step) (group group' after k : ℕ) → e ≡ greatest_over s → n.epochs ≡ s.epochs →
+pub back_recorded : (s n : Seen) (e : EpochName) (next more : ℕ) (names names' : Names) (past past' future future' : List Step) (group group' : ℕ) (overfull overfull' : Bool) (after k : ℕ) → e ≡ greatest_over s → n.epochs ≡ s.epochs →
     stacked (held_by n more names') past' future' ≡ course (stacked (held_by s next names) past future) (replicate k Back) →
-    steps_over n (record { epoch = e; next = more; names = names'; past = past'; future = future'; group = group'; after_sweep = after })
-    ≡ course (steps_over s (record { epoch = e; next = next; names = names; past = past; future = future; group = group; after_sweep = after })) (replicate k Back)
-back_recorded s n e next more names names' past past' future future' group group' after k q w h =
-    steps_there n e more names' past' future' group' after (q ∙ sym (same_greatest s n w)) ∙ (h ∙ sym (ap (λ (st : Steps). course st (replicate k Back)) (steps_there s e next names past future group after q)))
+    steps_over n (record { epoch = e; next = more; names = names'; past = past'; future = future'; group = group'; overfull = overfull'; after_sweep = after })
+    ≡ course (steps_over s (record { epoch = e; next = next; names = names; past = past; future = future; group = group; overfull = overfull; after_sweep = after })) (replicate k Back)
+back_recorded s n e next more names names' past past' future future' group group' overfull overfull' after k q w h =
+    steps_there n e more names' past' future' group' overfull' after (q ∙ sym (same_greatest s n w)) ∙ (h ∙ sym (ap (λ (st : Steps). course st (replicate k Back)) (steps_there s e next names past future group overfull after q)))
 
-pub back_may : (s : Seen) (e : EpochName) (next : ℕ) (names : Names) (past future : List Step) (group after k : ℕ) → e ≡ greatest_over s → MayRun (stacked (held_by s next names) past future) (replicate k Back) →
-    MayRun (steps_over s (record { epoch = e; next = next; names = names; past = past; future = future; group = group; after_sweep = after })) (replicate k Back)
-back_may s e next names past future group after k q f = subst (λ (st : Steps). MayRun st (replicate k Back)) (sym (steps_there s e next names past future group after q)) f
+pub back_may : (s : Seen) (e : EpochName) (next : ℕ) (names : Names) (past future : List Step) (group : ℕ) (overfull : Bool) (after k : ℕ) → e ≡ greatest_over s → MayRun (stacked (held_by s next names) past future) (replicate k Back) →
+    MayRun (steps_over s (record { epoch = e; next = next; names = names; past = past; future = future; group = group; overfull = overfull; after_sweep = after })) (replicate k Back)
+back_may s e next names past future group overfull after k q f = subst (λ (st : Steps). MayRun st (replicate k Back)) (sym (steps_there s e next names past future group overfull after q)) f
 
 pub shown : (st now : Steps) (k : ℕ) → MayRun st (replicate k Back) → now ≡ course st (replicate k Back) → (c : Copies) → Shows st c → Shows now (copies c (replicate k Back))
 shown st now k f e c x = subst (λ (z : Steps). Shows z (copies c (replicate k Back))) (sym e) (as_copied st c (replicate k Back) x f)

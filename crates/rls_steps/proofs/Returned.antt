@@ -47,21 +47,21 @@ pub record IsReturned (s n : Seen) (r q : Recorded) (ms : List Move) : Type 0 wh
 pub undone : (s n : Seen) (r w : Recorded) (next : ℕ) (names : Names) (past future : List Step) → IsReadied s r w → n.epochs ≡ s.epochs →
     MayRun (stacked (held_by s w.next w.names) w.past w.future) (replicate (group_size w.past) Back) →
     stacked (held_by n next names) past future ≡ course (stacked (held_by s w.next w.names) w.past w.future) (replicate (group_size w.past) Back) →
-    IsReturned s n r (record { epoch = w.epoch; next = next; names = names; past = past; future = future; group = w.group; after_sweep = w.after_sweep }) (replicate (group_size r.past) Back)
+    IsReturned s n r (record { epoch = w.epoch; next = next; names = names; past = past; future = future; group = w.group; overfull = w.overfull; after_sweep = w.after_sweep }) (replicate (group_size r.past) Back)
 undone s n r w next names past future i e f a =
     let st = readied_is s r w i in
     let k : group_size w.past ≡ group_size r.past = ap group_size i.past in
     let fits : MayRun (steps_over s r) (replicate (group_size r.past) Back) =
     subst (λ (x : Steps). MayRun x (replicate (group_size r.past) Back)) st (subst (λ (j : ℕ). MayRun (stacked (held_by s w.next w.names) w.past w.future) (replicate j Back)) k f) in
     let after : _ ≡ course (steps_over s r) (replicate (group_size r.past) Back) =
-    now_is n (record { epoch = w.epoch; next = next; names = names; past = past; future = future; group = w.group; after_sweep = w.after_sweep }) (i.epoch ∙ sym (same_greatest s n e))
+    now_is n (record { epoch = w.epoch; next = next; names = names; past = past; future = future; group = w.group; overfull = w.overfull; after_sweep = w.after_sweep }) (i.epoch ∙ sym (same_greatest s n e))
     ∙ (a ∙ (ap (λ (x : Steps). course x (replicate (group_size w.past) Back)) st ∙ ap (λ (j : ℕ). course (steps_over s r) (replicate j Back)) k)) in
     record { fits = fits; after = after; shows = shown (steps_over s r) _ (group_size r.past) fits after }
 
 pub redone : (s n : Seen) (r w : Recorded) (next : ℕ) (names : Names) (past future : List Step) → IsReadied s r w → n.epochs ≡ s.epochs →
     MayRun (stacked (held_by s w.next w.names) w.future w.past) (replicate (group_size w.future) Back) →
     stacked (held_by n next names) future past ≡ course (stacked (held_by s w.next w.names) w.future w.past) (replicate (group_size w.future) Back) →
-    IsReturned s n r (record { epoch = w.epoch; next = next; names = names; past = past; future = future; group = w.group; after_sweep = w.after_sweep }) (replicate (group_size r.future) Again)
+    IsReturned s n r (record { epoch = w.epoch; next = next; names = names; past = past; future = future; group = w.group; overfull = w.overfull; after_sweep = w.after_sweep }) (replicate (group_size r.future) Again)
 redone s n r w next names past future i e f a =
     let h = held_by s w.next w.names in
     let st = readied_is s r w i in
@@ -72,14 +72,14 @@ redone s n r w next names past future i e f a =
     let other : stacked (held_by n next names) past future ≡ course (stacked h w.past w.future) (replicate (group_size w.future) Again) =
     ap turned a ∙ sym (turned_course (group_size w.future) h (pieces_of w.future) (pieces_of w.past)) in
     let after : _ ≡ course (steps_over s r) (replicate (group_size r.future) Again) =
-    now_is n (record { epoch = w.epoch; next = next; names = names; past = past; future = future; group = w.group; after_sweep = w.after_sweep }) (i.epoch ∙ sym (same_greatest s n e))
+    now_is n (record { epoch = w.epoch; next = next; names = names; past = past; future = future; group = w.group; overfull = w.overfull; after_sweep = w.after_sweep }) (i.epoch ∙ sym (same_greatest s n e))
     ∙ (other ∙ (ap (λ (x : Steps). course x (replicate (group_size w.future) Again)) st ∙ ap (λ (j : ℕ). course (steps_over s r) (replicate j Again)) k)) in
     record { fits = fits; after = after; shows = shown_again (steps_over s r) _ (group_size r.future) fits after }
 
 -- a deletion is recorded
 pub delete_step : (s n : Seen) (r w : Recorded) (more : ℕ) (names : Names) (past future : List Step) (at count : ℕ) → w ≡ r → r.epoch ≡ greatest_over s → n.epochs ≡ s.epochs → future ≡ [] →
     held_by n more names ≡ cut_over (ready_over (held_by s w.next w.names) at count) at count → past ≡ w.past ++ steps_of w.group (parts (cut_piece (ready_over (held_by s w.next w.names) at count) at count)) →
-    steps_over n (record { epoch = w.epoch; next = more; names = names; past = past; future = future; group = w.group; after_sweep = w.after_sweep }) ≡ deleted (steps_over s r) at count
+    steps_over n (record { epoch = w.epoch; next = more; names = names; past = past; future = future; group = w.group; overfull = w.overfull; after_sweep = w.after_sweep }) ≡ deleted (steps_over s r) at count
 delete_step s n r w more names past future at count v q e z h p =
-    ap (λ (xs : List Step). steps_over n (record { epoch = w.epoch; next = more; names = names; past = past; future = xs; group = w.group; after_sweep = w.after_sweep })) z
-    ∙ (delete_recorded s n w.epoch w.next more w.names names w.past past w.future w.group w.after_sweep at count (ap (λ (x : Recorded). x.epoch) v ∙ q) e h p ∙ ap (λ (x : Recorded). deleted (steps_over s x) at count) v)
+    ap (λ (xs : List Step). steps_over n (record { epoch = w.epoch; next = more; names = names; past = past; future = xs; group = w.group; overfull = w.overfull; after_sweep = w.after_sweep })) z
+    ∙ (delete_recorded s n w.epoch w.next more w.names names w.past past w.future w.group w.overfull w.after_sweep at count (ap (λ (x : Recorded). x.epoch) v ∙ q) e h p ∙ ap (λ (x : Recorded). deleted (steps_over s x) at count) v)

@@ -1,6 +1,6 @@
 -- Labels that follow one another, whose names are identifiers of one run.
-use Rattle.std.proofs.Common.{◌≡◌, ℕ, zero, suc, ◌+◌, ◌-◌, ◌<◌, ◌≤◌, Bool, true, List, [], ◌∷◌, ◌++◌, length, take, drop, inl, inr, ◌⊎◌, ⊎_elim, refl, sym, ap, ◌∙◌, subst, append_assoc, drop-drop, arith, false}
-use Rattle.std.specs.Prelude.{ℤ, pos, ◌+ℤ◌, reverse, slice_get, slice_index, nat_lt, ◌==◌, Option, Some, None, IfSome, Ok, if◌then◌else◌, Err}
+use Rattle.std.proofs.Common.{◌≡◌, ℕ, zero, suc, ◌+◌, ◌<◌, ◌≤◌, Bool, true, List, [], ◌∷◌, ◌++◌, length, take, drop, inl, inr, ⊎_elim, refl, sym, ap, ◌∙◌, subst, append_assoc, drop-drop, arith, false}
+use Rattle.std.specs.Prelude.{pos, ◌+ℤ◌, reverse, slice_get, slice_index, nat_lt, ◌==◌, Option, Some, None, IfSome, Ok, if◌then◌else◌, Err}
 use Rattle.std.proofs.lemmas.Int.{ints}
 use Rattle.std.proofs.lemmas.List.{length-take, take-append-drop}
 use Rattle.std.proofs.lemmas.Option.{slice_get_within}

@@ -7,7 +7,7 @@ use Rattle.rls_model.proofs.Spliced.{append_map}
 use Rattle.rls_steps.specs.declared.piece.Step.{Step}
 use Rattle.rls_steps.specs.Marks.{Piece, Put, Cut}
 use Rattle.rls_steps.specs.Labelled.{Labelled, ready_over, cut_over, cut_piece}
-use Rattle.rls_steps.specs.Courses.{cut_ranges, taken_back, ranges_over, Fits, FitRanges, Steps, Move, Back, Again, course, moved, MayRun}
+use Rattle.rls_steps.specs.Courses.{cut_ranges, or_empty, taken_back, ranges_over, Fits, FitRanges, Steps, Move, Back, Again, course, moved, MayRun}
 use Rattle.rls_steps.specs.Groups.{turned}
 use Rattle.rls_steps.specs.Recorded.{pieces_of, steps_of}
 
@@ -22,11 +22,15 @@ cut_same h [] ps qs = refl
 cut_same h (r ∷ rs) ps qs = let g = ready_over h r.0 r.1 in cut_same (cut_over g r.0 r.1) rs (cut_piece g r.0 r.1 ∷ ps) (cut_piece g r.0 r.1 ∷ qs)
 
 pub taken_others : (h : Labelled) (p : Piece) (qs : List Piece) → (taken_back h p qs).other ≡ (taken_back h p []).other ++ qs
-taken_others h (Put labels) qs = cut_others h (ranges_over h labels) [] qs
+taken_others h (Put labels) qs = go (ranges_over h labels)
+  where
+    go : (rs : List (ℕ × ℕ)) → (cut_ranges h rs (or_empty rs qs)).other ≡ (cut_ranges h rs (or_empty rs [])).other ++ qs
+    go [] = refl
+    go (r ∷ rs) = cut_others h (r ∷ rs) [] qs
 taken_others h (Cut labels cs left right) qs = refl
 
 pub taken_same : (h : Labelled) (p : Piece) (qs : List Piece) → (taken_back h p qs).held ≡ (taken_back h p []).held
-taken_same h (Put labels) qs = cut_same h (ranges_over h labels) qs []
+taken_same h (Put labels) qs = let rs = ranges_over h labels in cut_same h rs (or_empty rs qs) (or_empty rs [])
 taken_same h (Cut labels cs left right) qs = refl
 
 -- ---- one more range

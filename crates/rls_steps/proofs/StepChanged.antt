@@ -16,7 +16,7 @@ use Rattle.rls_changes.proofs.Joining.{played_append}
 use Rattle.rls_steps.specs.declared.piece.Step.{Step}
 use Rattle.rls_steps.specs.Marks.{Piece, Put, Cut}
 use Rattle.rls_steps.specs.Labelled.{Labelled, ready_over, cut_over, cut_piece}
-use Rattle.rls_steps.specs.Courses.{Steps, Back, Fits, FitRanges, course, cut_ranges, moved, place_over, ranges_over}
+use Rattle.rls_steps.specs.Courses.{Steps, Back, Fits, FitRanges, course, cut_ranges, moved, or_empty, place_over, ranges_over}
 use Rattle.rls_steps.specs.Recorded.{pieces_of}
 use Rattle.rls_steps.specs.StepChanges.{range_change, piece_changes, first_changes, back_changes, AreTold, PieceChanges}
 use Rattle.rls_steps.proofs.Own.{label_seen}
@@ -72,8 +72,8 @@ put_labels (Cut labels cs left right) other = other
 pub piece_changed : PieceChanges
 unfolding put_labels
 piece_changed h (Put labels) sane f = record {
-  plays = ranges_play h (ranges_over h labels) [] sane f;
-  put = λ ls e. (ranges_insert (ranges_over h labels), ranges_gone h (ranges_over h labels) [] sane f);
+  plays = let rs = ranges_over h labels in ranges_play h rs (or_empty rs []) sane f;
+  put = λ ls e. let rs = ranges_over h labels in (ranges_insert rs, ranges_gone h rs (or_empty rs []) sane f);
 }
 piece_changed h (Cut labels cs left right) sane f = record {
   plays = sym (text-edited h.seen (edits.Insert (place_over h left right) cs) sane f.0 f.1);

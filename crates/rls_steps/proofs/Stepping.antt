@@ -10,7 +10,6 @@ use Rattle.rls_ident.proofs.Ends.{ident_eq_refl}
 use Rattle.rls_ident.proofs.Members.{bool_cases, map_in, in_split, in_left, in_right, in_take, in_drop, not_zero}
 use Rattle.rls_runs.specs.Entries.{Entries, chars_in}
 use Rattle.rls_runs.proofs.Sorted.{Entry}
-use Rattle.rls_ops.specs.Rows.{left}
 use Rattle.rls_model.specs.declared.edit.Edit.TheVariants as edits
 use Rattle.rls_model.specs.declared.edit.EditError.TheVariants as faults
 use Rattle.rls_model.proofs.OneTree.{none_else}

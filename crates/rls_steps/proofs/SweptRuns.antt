@@ -1,6 +1,6 @@
 -- Names of a run that are kept together.
 use Rattle.std.proofs.Common.{◌≡◌, ℕ, zero, suc, ◌+◌, ◌-◌, ◌<◌, ◌≤◌, Bool, true, false, List, [], ◌∷◌, ◌++◌, length, take, drop, get_or, refl, sym, ap, ◌∙◌, subst, arith}
-use Rattle.std.specs.Prelude.{Some, ◌==◌, ◌&&◌, ◌||◌, cond, filter, reverse, is_ok, slice_get, nat_lt, nat_eq, Ok, Err, if◌then◌else◌}
+use Rattle.std.specs.Prelude.{Some, ◌==◌, ◌&&◌, ◌||◌, cond, filter, reverse, is_ok, slice_get, nat_lt, nat_eq, Ok, Err}
 use Rattle.std.specs.List.{dedup}
 use Rattle.std.specs.List.Retain.{IsFiltered, DiffersFromLast}
 use Rattle.std.specs.List.Sorted.{IsSorted, IsNonDecreasing, IsBinarySearchResult}
@@ -17,7 +17,7 @@ use Rattle.rls_ident.specs.declared.tuple.Tuple.{Tuple}
 use Rattle.rls_ident.specs.Identifiers.{ident_eq}
 use Rattle.rls_ident.specs.Lists.{IsIn}
 use Rattle.rls_ident.proofs.Ends.{ident_eq_refl}
-use Rattle.rls_ident.proofs.Members.{bool_cases, eq_is, eq_refl, same_bool, lt_is, not_lt_is, not_true, in_any, any_in}
+use Rattle.rls_ident.proofs.Members.{bool_cases, eq_refl, same_bool, lt_is, not_lt_is, not_true, in_any, any_in}
 use Rattle.rls_runs.specs.Runs.{place_of}
 use Rattle.rls_steps.specs.Labelled.{Names}
 use Rattle.rls_steps.specs.NameRuns.{Stretch, name_at, names_of}

@@ -1,7 +1,7 @@
 -- The labels of a text, place by place.
 use Rattle.std.proofs.Common.{◌≡◌, ℕ, zero, suc, ◌+◌, ◌<◌, ◌≤◌, List, [], ◌∷◌, ◌++◌, map, length, take, drop, inl, inr, refl, sym, ap, ◌∙◌, subst, arith}
 use Rattle.std.specs.Prelude.{slice_get, Option, Some, Ok}
-use Rattle.std.proofs.lemmas.List.{take-append-drop, length-map}
+use Rattle.std.proofs.lemmas.List.{length-map}
 use Rattle.rls_ident.specs.declared.tuple.Tuple.{Tuple}
 use Rattle.rls_ident.specs.Lists.{IsIn}
 use Rattle.rls_ident.proofs.Lists.{Lt, lt_irrefl}
@@ -9,7 +9,7 @@ use Rattle.rls_ident.proofs.Members.{get_in}
 use Rattle.rls_ident.proofs.Tuples.{tuples}
 use Rattle.rls_model.proofs.Spliced.{append_map}
 use Rattle.rls_runs.specs.Runs.{place_of}
-use Rattle.rls_runs.proofs.RunOrder.{AllMore, Rising, rising_left, rising_right}
+use Rattle.rls_runs.proofs.RunOrder.{AllMore, Rising}
 use Rattle.rls_runs.proofs.RunPlaces.{found_is, found_there}
 use Rattle.rls_tree.proofs.Puts.{get_drop}
 use Rattle.rls_steps.specs.Labelled.{Names, label_of}

@@ -50,8 +50,13 @@ ranges_over h labels = reverse (ranges_of (label_places 0 labels (marks (marked 
 abbrev pub place_over : Labelled → Option ℕ → Option ℕ → ℕ
 place_over h left right = return_place (marks (marked h)) left right (gone_place h left)
 
+-- where nothing is left of a piece, an empty one stands for it on the other stack
+abbrev pub or_empty : List (ℕ × ℕ) → List Piece → List Piece
+or_empty [] qs = Put [] ∷ qs
+or_empty (r ∷ rs) qs = qs
+
 abbrev pub taken_back : Labelled → Piece → List Piece → Taken
-taken_back h (Put labels) qs = cut_ranges h (ranges_over h labels) qs
+taken_back h (Put labels) qs = let rs = ranges_over h labels in cut_ranges h rs (or_empty rs qs)
 taken_back h (Cut labels cs left right) qs = record { held = put_over h (place_over h left right) labels cs; other = Put labels ∷ qs }
 
 -- the edit is well formed and isn't refused

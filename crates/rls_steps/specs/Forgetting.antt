@@ -1,10 +1,10 @@
 -- The oldest steps, which are forgotten.
-use Rattle.std.specs.Prelude.{ℕ, zero, suc, ◌+◌, ◌-◌, ◌≤◌, List, [], ◌∷◌, length, take, drop, reverse, nat_le, if◌then◌else◌}
+use Rattle.std.specs.Prelude.{ℕ, zero, suc, ◌+◌, ◌-◌, ◌≤◌, ◌||◌, List, [], ◌∷◌, length, take, drop, reverse, nat_le, if◌then◌else◌}
 use Rattle.rls_seen.specs.Seen.{Seen}
 use Rattle.rls_steps.specs.declared.piece.Step.{Step}
 use Rattle.rls_steps.specs.Marks.{Piece, Put, Cut}
 use Rattle.rls_steps.specs.Courses.{Copies, Shows}
-use Rattle.rls_steps.specs.Groups.{in_front}
+use Rattle.rls_steps.specs.Groups.{in_front, goes_on, group_before}
 use Rattle.rls_steps.specs.Recorded.{Recorded, steps_over}
 
 -- how many characters a piece names
@@ -34,7 +34,21 @@ forgotten steps chars xs = let over = length xs - fitting steps chars (reverse x
 
 -- without the first k steps that can be undone
 abbrev pub without_first : ℕ → Recorded → Recorded
-without_first k r = record { epoch = r.epoch; next = r.next; names = r.names; past = drop k r.past; future = r.future; group = r.group; after_sweep = r.after_sweep }
+without_first k r = record { epoch = r.epoch; next = r.next; names = r.names; past = drop k r.past; future = r.future; group = r.group; overfull = r.overfull; after_sweep = r.after_sweep }
+
+-- how many of the oldest steps go: all, if the open group is overfull
+abbrev pub leaving : ℕ → ℕ → Recorded → ℕ
+leaving steps chars r = if r.overfull then length r.past else forgotten steps chars r.past
+
+-- without them. If the open group is among those that go, it is overfull
+abbrev pub lightened : ℕ → ℕ → Recorded → Recorded
+lightened steps chars r =
+    let k = leaving steps chars r in
+    record { epoch = r.epoch; next = r.next; names = r.names; past = drop k r.past; future = r.future; group = r.group; overfull = r.overfull || goes_on (group_before r.past k) r.group; after_sweep = r.after_sweep }
+
+-- without what is recorded of the open group, if that is overfull: nothing else is left then
+abbrev pub without_overfull : Recorded → Recorded
+without_overfull r = if r.overfull then without_first (length r.past) r else r
 
 -- the text stays that of an editor that keeps a copy of each text, and forgot the oldest
 abbrev pub ForgettingShows : Type 0

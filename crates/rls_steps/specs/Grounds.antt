@@ -1,5 +1,5 @@
 -- What is recorded, exactly, over any kind of state: what a replica consists of, or a history and what waits beside it.
-use Rattle.std.specs.Prelude.{ℕ, zero, suc, ◌+◌, ◌-◌, List, [], ◌∷◌, ◌++◌, map, zip, length, take, drop, reverse, slice_get, Option, Some, None, if◌then◌else◌}
+use Rattle.std.specs.Prelude.{ℕ, zero, suc, ◌+◌, ◌-◌, false, List, [], ◌∷◌, ◌++◌, map, zip, length, take, drop, reverse, slice_get, Option, Some, None, if◌then◌else◌}
 use Rattle.rls_ident.specs.declared.tuple.Tuple.{Tuple}
 use Rattle.rls_ident.specs.declared.epoch_name.EpochName.{EpochName}
 use Rattle.rls_ident.specs.EpochNames.{name_eq}
@@ -19,7 +19,7 @@ use Rattle.rls_undo.specs.Undoing.{unless}
 use Rattle.rls_steps.specs.declared.piece.Step.{Step}
 use Rattle.rls_steps.specs.Marks.{Mark, Piece, Put, Cut, label_places, return_place, numbers_from}
 use Rattle.rls_steps.specs.Labelled.{Names, label_of, mark, labels_in, label_at, left_of, inserted_by}
-use Rattle.rls_steps.specs.Courses.{ident_of, below_or_none}
+use Rattle.rls_steps.specs.Courses.{ident_of, below_or_none, or_empty}
 use Rattle.rls_steps.specs.Groups.{group_size, next_group}
 use Rattle.rls_steps.specs.Parts.{parts}
 use Rattle.rls_steps.specs.Recorded.{Recorded, steps_of}
@@ -133,7 +133,7 @@ cuts_on G h (r ∷ rs) qs =
     unless e (record { held = h; other = qs; fault = e }) (cuts_on G (cut_on G g r.0 r.1) rs (piece_on G g r.0 r.1 ∷ qs))
 
 abbrev pub taken_on : {X : Type 0} → Ground X → Held X → Piece → Left X
-taken_on G h (Put labels) = cuts_on G h (ranges_on G h labels) []
+taken_on G h (Put labels) = let rs = ranges_on G h labels in cuts_on G h rs (or_empty rs [])
 taken_on G h (Cut labels cs left right) =
     let at = place_on G h left right in
     let e = G.fault h.state (edits.Insert at cs) in
@@ -175,6 +175,7 @@ settled_on G s r = record {
   past = r.past;
   future = r.future;
   group = r.group;
+  overfull = r.overfull;
   after_sweep = r.after_sweep;
 }
 
@@ -191,12 +192,13 @@ begun_on G s r = record {
   past = r.past;
   future = r.future;
   group = r.group;
+  overfull = r.overfull;
   after_sweep = r.after_sweep;
 }
 
 -- the open group is ended
 abbrev pub closed : Recorded → Recorded
-closed r = record { epoch = r.epoch; next = r.next; names = r.names; past = r.past; future = r.future; group = next_group r.group; after_sweep = r.after_sweep }
+closed r = record { epoch = r.epoch; next = r.next; names = r.names; past = r.past; future = r.future; group = next_group r.group; overfull = false; after_sweep = r.after_sweep }
 
 -- these steps are those of the open group, and nothing can be done again
 abbrev pub added_on : {X : Type 0} → Ground X → X → Recorded → Held X → List Step → Recorded
@@ -207,6 +209,7 @@ added_on G s r h more = record {
   past = r.past ++ more;
   future = [];
   group = r.group;
+  overfull = r.overfull;
   after_sweep = r.after_sweep;
 }
 
@@ -245,13 +248,14 @@ back_on G s r =
         past = reverse t.from;
         future = t.to;
         group = next_group r.group;
+        overfull = false;
         after_sweep = r.after_sweep;
       };
     }
 
 -- with the stacks exchanged
 abbrev pub exchanged : Recorded → Recorded
-exchanged r = record { epoch = r.epoch; next = r.next; names = r.names; past = r.future; future = r.past; group = r.group; after_sweep = r.after_sweep }
+exchanged r = record { epoch = r.epoch; next = r.next; names = r.names; past = r.future; future = r.past; group = r.group; overfull = r.overfull; after_sweep = r.after_sweep }
 
 abbrev pub again_on : {X : Type 0} → Ground X → X → Recorded → Turned X
 again_on G s r = let t = back_on G s (exchanged r) in record { steps = t.steps; fault = t.fault; state = t.state; recorded = exchanged t.recorded }

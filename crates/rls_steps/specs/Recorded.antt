@@ -1,5 +1,5 @@
 -- What is recorded of a member's steps.
-use Rattle.std.specs.Prelude.{◌≡◌, ℕ, List, [], map, length, reverse, if◌then◌else◌}
+use Rattle.std.specs.Prelude.{◌≡◌, ℕ, Bool, false, List, [], map, length, reverse, if◌then◌else◌}
 use Rattle.rls_ident.specs.declared.epoch_name.EpochName.{EpochName}
 use Rattle.rls_ident.specs.declared.epoch_name.EpochName.TheVariants.{Origin}
 use Rattle.rls_ident.specs.EpochNames.{name_eq}
@@ -38,6 +38,8 @@ pub record Recorded : Type 0 where
   pub future : List Step
   -- the number of the group that is open
   pub group : ℕ
+  -- it had more than the bounds allow, and was forgotten. What is still recorded of it is forgotten, too
+  pub overfull : Bool
   -- how many names there were after the last sweep
   pub after_sweep : ℕ
 
@@ -54,6 +56,7 @@ settled s r = record {
   past = r.past;
   future = r.future;
   group = r.group;
+  overfull = r.overfull;
   after_sweep = r.after_sweep;
 }
 
@@ -63,7 +66,7 @@ steps_over s r = record { held = held_by s r.next (names_over s r.epoch r.names)
 
 -- nothing is recorded
 abbrev pub unused : Recorded
-unused = record { epoch = Origin; next = 0; names = []; past = []; future = []; group = 0; after_sweep = 0 }
+unused = record { epoch = Origin; next = 0; names = []; past = []; future = []; group = 0; overfull = false; after_sweep = 0 }
 
 -- the edit is an insertion of n characters
 abbrev pub IsInsertion : Edit → ℕ → Type 0

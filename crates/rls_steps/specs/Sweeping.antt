@@ -11,7 +11,7 @@ use Rattle.rls_steps.specs.Labelled.{Names}
 use Rattle.rls_steps.specs.Tables.{given_labels}
 use Rattle.rls_steps.specs.Index.{AreApart}
 use Rattle.rls_steps.specs.Courses.{ident_of, Copies, Shows}
-use Rattle.rls_steps.specs.Forgetting.{forgotten, without_first}
+use Rattle.rls_steps.specs.Forgetting.{lightened, without_overfull}
 use Rattle.rls_steps.specs.Recorded.{Recorded, settled, steps_over}
 
 -- the labels that a piece names: those of its characters, and those of both neighbours
@@ -48,12 +48,13 @@ kept_names xs labels names = filter (is_kept xs labels (reverse names)) names
 abbrev pub swept : List (List Tuple) → Recorded → Recorded
 swept xs r =
     let names = kept_names xs (step_labels r.past ++ step_labels r.future) r.names in
-    record { epoch = r.epoch; next = r.next; names = names; past = r.past; future = r.future; group = r.group; after_sweep = length names }
+    record { epoch = r.epoch; next = r.next; names = names; past = r.past; future = r.future; group = r.group; overfull = r.overfull; after_sweep = length names }
 
 -- once there are more than twice as many names as there were after the last sweep, the oldest groups are forgotten, down to so many steps and
--- characters, and then the names that no step needs: in a text of these identifiers, where w is the same in the greatest epoch
+-- characters, and then the names that no step needs: in a text of these identifiers, where w is the same in the greatest epoch. What is
+-- recorded of an overfull group is forgotten at once
 abbrev pub kept_in : List (List Tuple) → Recorded → ℕ → ℕ → Recorded → Recorded
-kept_in xs w steps chars r = if nat_le (length r.names / 2) r.after_sweep then r else swept xs (without_first (forgotten steps chars r.past) w)
+kept_in xs w steps chars r = if nat_le (length r.names / 2) r.after_sweep then without_overfull r else swept xs (lightened steps chars w)
 
 -- at a replica
 abbrev pub kept_within : Seen → ℕ → ℕ → Recorded → Recorded

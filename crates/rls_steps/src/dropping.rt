@@ -2,7 +2,7 @@
 
 ghost use Rattle.std.specs.Prelude.{◌≡◌, ◌≤◌, ◌+◌, length, drop, reverse};
 ghost use Rattle.rls_steps.specs.Forgetting.{fitting, forgotten, piece_size, rest_of_group};
-ghost use Rattle.rls_steps.specs.Groups.{in_front};
+ghost use Rattle.rls_steps.specs.Groups.{in_front, goes_on, group_before};
 
 use crate::piece::{Piece, Step};
 
@@ -61,6 +61,14 @@ fn rest_of_group(steps: &Vec<Step>, from: usize) -> usize
         more += 1;
     }
     more
+}
+
+/// Whether the last of the first steps belongs to this group.
+pub(crate) fn reaches(steps: &Vec<Step>, count: usize, group: u64) -> bool
+    requires within { count ≤ length steps.now.items }
+    ensures reaches { result ≡ goes_on (group_before steps.now.items count) group }
+{
+    count > 0 && steps[count - 1].group == group
 }
 
 /// Without the first steps. It takes no memory.

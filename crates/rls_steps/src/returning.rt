@@ -63,7 +63,7 @@ pub(crate) fn take_back(
     }
 }
 
-// The characters with these labels.
+// The characters with these labels. Where none is left, an empty piece stands on the other stack.
 fn take_out(
     replica: &mut Replica,
     names: &mut Names,
@@ -86,10 +86,29 @@ fn take_out(
     let Ok(ranges) = ranges(replica, names, labels) else {
         return Err(EditError::OutOfMemory);
     };
+    if ranges.len() == 0 {
+        let Ok(()) = push_empty(other, group) else {
+            return Err(EditError::OutOfMemory);
+        };
+        return Ok(());
+    }
     match cut_all(replica, names, next, group, &ranges, other, changes) {
         Err(error) => Err(error),
         Ok(()) => Ok(()),
     }
+}
+
+// A step of which nothing is left. After an error all is as before.
+fn push_empty(steps: &mut Vec<Step>, group: u64) -> Result<(), AllocError>
+    ensures ok { OnOk result (steps.new.items ≡ steps.old.items ++ record { group = group; piece = Put [] } ∷ []) }
+    ensures err { OnErr result (steps.new.items ≡ steps.old.items) }
+{
+    let labels = Labels::from_vec(Vec::new(*steps.allocator()));
+    steps.push(Step {
+        group,
+        piece: Piece::Put { labels },
+    })?;
+    Ok(())
 }
 
 // Cuts these ranges out, one after another.

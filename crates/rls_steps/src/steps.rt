@@ -1,15 +1,15 @@
 //! What a member did to its text, step by step, and what it took back.
 
-ghost use Rattle.std.specs.Prelude.{◌≡◌, ◌+◌, ◌++◌, ◌∷◌, [], ℕ, List, length, take, reverse, ◌-◌, map, replicate, Some, None, IfOk, IfErr, OnOk, OnErr, IsErrOf, ◌↔◌, IsFalse, ◌≤◌, ◌⊎◌};
+ghost use Rattle.std.specs.Prelude.{◌≡◌, ◌+◌, ◌++◌, ◌∷◌, [], ℕ, List, length, take, drop, reverse, false, ◌||◌, ◌-◌, map, replicate, Some, None, IfOk, IfErr, OnOk, OnErr, IsErrOf, ◌↔◌, IsFalse, ◌≤◌, ◌⊎◌};
 ghost use Rattle.rls_ident.specs.declared.epoch_name.EpochName.{EpochName};
 ghost use Rattle.rls_model.specs.declared.edit.EditError.{EditError};
 ghost use Rattle.rls_seen.specs.Edits.{edit_fault_over, edited, made_over};
 ghost use Rattle.rls_seen.specs.Seen.{own_count, idents_over, greatest_over, text_over};
 ghost use Rattle.rls_replica.specs.Names.{keeps, KeepsNames};
 ghost use Rattle.rls_steps.specs.Courses.{Back, Again, course, MayRun, Copies, Shows, copies};
-ghost use Rattle.rls_steps.specs.Forgetting.{forgotten, without_first};
+ghost use Rattle.rls_steps.specs.Forgetting.{leaving, lightened, without_overfull};
 ghost use Rattle.rls_steps.specs.Index.{AreApart};
-ghost use Rattle.rls_steps.specs.Groups.{group_size, group_count, next_group, turned, IsStopped};
+ghost use Rattle.rls_steps.specs.Groups.{group_size, group_count, group_before, goes_on, next_group, turned, IsStopped};
 ghost use Rattle.rls_changes.specs.Edits.{edit_changes};
 ghost use Rattle.rls_steps.specs.Grounds.{over, begun_on, recorded_on, back_edits, again_edits, back_on, again_on, closed};
 ghost use Rattle.rls_steps.specs.StepChanges.{back_changes, AreTold};
@@ -18,7 +18,7 @@ ghost use Rattle.rls_steps.specs.Sweeping.{swept, kept_within, with_newest};
 
 mod recording;
 
-use crate::dropping::{drop_first, forgotten};
+use crate::dropping::{drop_first, forgotten, reaches};
 use crate::labelling::translated;
 use crate::names::Names;
 use crate::piece::Step;
@@ -53,6 +53,7 @@ pub struct Steps {
     past: Vec<Step>,
     future: Vec<Step>,
     group: u64,
+    overfull: bool,
     after_sweep: usize,
 }
 
@@ -61,7 +62,7 @@ impl Model for Steps {
 
     ghost Value = { Recorded };
 
-    ghost view = { λ s. record { epoch = s.epoch; next = s.next; names = s.names; past = s.past.items; future = s.future.items; group = s.group; after_sweep = s.after_sweep } };
+    ghost view = { λ s. record { epoch = s.epoch; next = s.next; names = s.names; past = s.past.items; future = s.future.items; group = s.group; overfull = s.overfull; after_sweep = s.after_sweep } };
 }
 
 impl Steps {
@@ -76,6 +77,7 @@ impl Steps {
             past: Vec::new(alloc),
             future: Vec::new(alloc),
             group: 0,
+            overfull: false,
             after_sweep: 0,
         }
     }
@@ -119,31 +121,73 @@ impl Steps {
         ensures past { self.new.past ≡ self.old.past }
         ensures future { self.new.future ≡ self.old.future }
         ensures group { self.new.group ≡ next_group self.old.group }
+        ensures overfull { self.new.overfull ≡ false }
         ensures closed { self.new ≡ closed self.old }
         ensures after_sweep { self.new.after_sweep ≡ self.old.after_sweep }
     {
         if let Some(group) = self.group.checked_add(1) {
             self.group = group;
         }
+        self.overfull = false;
     }
 
-    /// Forgets the oldest groups that can be undone, so that at most so many steps are left, which put in or cut out at most so many
-    /// characters. The names stay. It takes no memory, and costs a pass over the steps.
+    /// Forgets the oldest groups that can be undone, whole, so that at most so many steps are left, which put in or cut out at most so many
+    /// characters. If the open group has more by itself, nothing is left, and what is recorded of it until it is closed goes at the next
+    /// `forget` or `keep_within`. The names stay. It takes no memory, and costs a pass over the steps.
     pub fn forget(&mut self, steps: usize, chars: u64)
-        ensures left { self.new ≡ without_first (forgotten steps chars self.old.past) self.old }
-        ensures within { forgotten steps chars self.old.past ≤ length self.old.past }
+        ensures left { self.new ≡ lightened steps chars self.old }
+        ensures within { leaving steps chars self.old ≤ length self.old.past }
     {
-        let count = forgotten(&self.past, steps, chars);
+        let count = self.leaving(steps, chars);
+        self.drop_oldest(count);
+    }
+
+    // How many of the oldest steps go.
+    fn leaving(&self, steps: usize, chars: u64) -> usize
+        ensures leaving { result ≡ leaving steps chars self.now }
+        ensures within { result ≤ length self.now.past }
+    {
+        if self.overfull {
+            return self.past.len();
+        }
+        forgotten(&self.past, steps, chars)
+    }
+
+    // Forgets so many of the oldest steps.
+    fn drop_oldest(&mut self, count: usize)
+        requires within { count ≤ length self.old.past }
+        ensures left { self.new.past ≡ drop count self.old.past }
+        ensures overfull { self.new.overfull ≡ (self.old.overfull || goes_on (group_before self.old.past count) self.old.group) }
+        ensures epoch { self.new.epoch ≡ self.old.epoch }
+        ensures next { self.new.next ≡ self.old.next }
+        ensures names { self.new.names ≡ self.old.names }
+        ensures future { self.new.future ≡ self.old.future }
+        ensures group { self.new.group ≡ self.old.group }
+        ensures after_sweep { self.new.after_sweep ≡ self.old.after_sweep }
+    {
+        if reaches(&self.past, count, self.group) {
+            self.overfull = true;
+        }
         drop_first(&mut self.past, count);
+    }
+
+    // Forgets what is recorded of the open group, if that is overfull.
+    fn drop_overfull(&mut self)
+        ensures left { self.new ≡ without_overfull self.old }
+    {
+        if self.overfull {
+            self.past.clear();
+        }
     }
 
     /// Keeps memory within bounds: an editor calls it after each edit, undo and redo. Nothing happens until there are more than twice as
     /// many names as the last sweep left. Then the oldest groups are forgotten, as by `forget`, and there is a sweep: a name stays only
     /// if a step names its label, and if besides no newer name has that label or its character is in the text. Names that go are never
-    /// needed again, so what is left leads to the same texts as before. After an error all is as before, but that everything may be in
-    /// the greatest epoch.
+    /// needed again, so what is left leads to the same texts as before. If the open group was forgotten, what is recorded of it until it is
+    /// closed goes at each call: so a group is taken back whole, or not at all. After an error all is as before, but that everything may be
+    /// in the greatest epoch.
     ///
-    /// Each call costs nothing but a comparison, until there is a sweep. That costs a pass over the steps and a sort of the labels
+    /// Each call costs nothing but two comparisons, until there is a sweep. That costs a pass over the steps and a sort of the labels
     /// that they name, a few searches for each run of names that is kept whole, and a few for each name of the others.
     ///
     /// # Errors
@@ -161,6 +205,7 @@ impl Steps {
         ensures shows { OnOk result ((c : Copies) → Shows (steps_over replica.now self.old) c → Shows (steps_over replica.now self.new) (with_newest (length self.new.past) c)) }
     {
         if self.names.len() / 2 <= self.after_sweep {
+            self.drop_overfull();
             return Ok(());
         }
         match self.settle(replica) {
@@ -172,19 +217,19 @@ impl Steps {
     // Everything is in the greatest epoch.
     fn sweep(&mut self, replica: &Replica, steps: usize, chars: u64) -> Result<(), PastError>
         requires greatest { self.old.epoch ≡ greatest_over replica.now }
-        ensures swept { OnOk result (self.new ≡ swept (idents_over replica.now) (without_first (forgotten steps chars self.old.past) self.old)) }
+        ensures swept { OnOk result (self.new ≡ swept (idents_over replica.now) (lightened steps chars self.old)) }
         ensures kept { (e : EpochName) → IsErrOf result (PastError.Dropped e) → ⊥ }
         ensures stays { OnErr result (self.new ≡ self.old) }
         ensures apart { AreApart (reverse self.old.names) }
-        ensures within { forgotten steps chars self.old.past ≤ length self.old.past }
+        ensures within { leaving steps chars self.old ≤ length self.old.past }
     {
         rely!(self.names.apart());
-        let count = forgotten(&self.past, steps, chars);
+        let count = self.leaving(steps, chars);
         let (_, past) = self.past.split_at(count);
         let Ok(names) = kept_names(replica, &self.names, past, &self.future) else {
             return Err(PastError::OutOfMemory);
         };
-        drop_first(&mut self.past, count);
+        self.drop_oldest(count);
         self.after_sweep = names.len();
         self.names = names;
         Ok(())

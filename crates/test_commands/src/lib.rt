@@ -1,9 +1,11 @@
-//! Tests of commands and sessions, over devices in memory. Those of `large` and `trials`, with inputs and texts at their limits, are run
+//! Tests of commands and sessions, over devices in memory. Those of `large`, `long` and `trials`, with inputs and texts at their limits, are run
 //! as they are built, since `rt try`, which runs with checks, takes too long for them.
 #![tactic(auto)]
 
 #[cfg(test)]
 mod large;
+#[cfg(test)]
+mod long;
 #[cfg(test)]
 mod members;
 #[cfg(test)]

@@ -126,9 +126,10 @@ const ROWS: &[&str] = &[
     // Both end the open group, and an edit after them can't be followed by what was taken back before it.
     "i 0 A\nz\ny\ni 1 B\ng\nz\nz\nt\n | ok 2\nback 1\nagain 1\nok 5\ngroups 2 0\nback 1\nback 1\ntext 5\nhello\nsaved\n | other",
     "i 0 A\nz\ni 5 B\ny\nt\n | ok 2\nback 1\nok 4\nno nothing\ntext 6\nhelloB\nsaved\n | other",
-    // Over a rename and stores, beside an undo, which is no step, and where an edit was refused.
+    // Over a rename and stores, beside an undo, which is no step and may leave nothing of one, and where an edit was refused.
     "i 0 A\nr\nw\nz\nw\ng\ny\nt\n | ok 2\nok 3\nsaved\nback 1\nsaved\ngroups 0 1\nagain 1\ntext 6\nAhello\nsaved\n | other",
     "i 0 A\nz\nu\ny\nt\n | ok 2\nback 1\nundone 0 0\nagain 1\ntext 6\nAhello\nsaved\n | other",
+    "i 5 a\ng\ni 6 b\nz\nu\nu\nz\ng\ny\ny\nz\nz\nz\nt\n | ok 2\ngroups 1 0\nok 3\nback 1\nundone 0 0\nundone 1 1\nback 1\ngroups 0 2\nagain 1\nagain 1\nback 1\nback 1\nno nothing\ntext 5\nhello\nsaved\n | other",
     "i 9 x\nb 5\nr\nz\nt\n | no range 9 5\nok 2\nok 3\nback 1\ntext 5\nhello\nsaved\n | other",
     "z 1\ny \nzz\ng 0\nZ\n | bad\nbad\nbad\nbad\nbad\nsaved\n | same",
     // A cursor of the character after it, beside one of the character before it; at the end both are the same.

@@ -316,6 +316,61 @@ const SWEPT: &[Row] = &[
     "undo | 1 | abcd",
 ];
 
+/// A step of which others took all leaves an empty one, so each redo matches one undo.
+const EMPTIED: &[Row] = &[
+    "edit insert 0 a | 1 | a",
+    "close | closed | a",
+    "edit insert 1 b | 2 | ab",
+    "undo | 1 | a",
+    "give | true | a",
+    "other delete 0 1 | 1 | a",
+    "take | true | ",
+    "undo | 1 | ",
+    "count | 0 2 | ",
+    "redo | 1 | ",
+    "count | 1 1 | ",
+    "redo | 1 | b",
+    "undo | 1 | ",
+    "undo | 1 | ",
+    "undo | Nothing | ",
+    "count | 0 2 | ",
+];
+
+/// An open group that is too large by itself is forgotten whole, and so is what comes to it until it is closed: by steps, and by characters.
+const OVERFULL: &[Row] = &[
+    "edit insert 0 ab | 1 | ab",
+    "close | closed | ab",
+    "edit insert 2 c | 2 | abc",
+    "edit insert 3 d | 3 | abcd",
+    "edit insert 4 e | 4 | abcde",
+    "keep 2 99 | Ok(()) | abcde",
+    "count | 0 0 | abcde",
+    "named | 0 | abcde",
+    "edit insert 5 f | 5 | abcdef",
+    "count | 1 0 | abcdef",
+    "keep 2 99 | Ok(()) | abcdef",
+    "count | 0 0 | abcdef",
+    "named | 1 | abcdef",
+    "undo | Nothing | abcdef",
+    "edit insert 6 gh | 6 | abcdefgh",
+    "keep 2 99 | Ok(()) | abcdefgh",
+    "count | 0 0 | abcdefgh",
+    "named | 0 | abcdefgh",
+    "close | closed | abcdefgh",
+    "edit insert 8 i | 7 | abcdefghi",
+    "keep 2 99 | Ok(()) | abcdefghi",
+    "count | 1 0 | abcdefghi",
+    "undo | 1 | abcdefgh",
+    "undo | Nothing | abcdefgh",
+    "edit insert 8 jk | 9 | abcdefghjk",
+    "edit delete 0 2 | 10 | cdefghjk",
+    "forget 9 3 | forgotten | cdefghjk",
+    "count | 0 0 | cdefghjk",
+    "edit insert 0 l | 11 | lcdefghjk",
+    "forget 9 9 | forgotten | lcdefghjk",
+    "undo | Nothing | lcdefghjk",
+];
+
 /// A step of which others deleted all is taken back with no edit; the one before it is refused, and stays.
 const REFUSED: &[Row] = &[
     "edit insert 0 ab | 1 | ab",
@@ -325,9 +380,9 @@ const REFUSED: &[Row] = &[
     "take | true | ab",
     "edit leave | 3 | ab",
     "undo | Edit(Left) | ab",
-    "count | 1 0 | ab",
+    "count | 1 1 | ab",
     "undo | Edit(Left) | ab",
-    "redo | Nothing | ab",
+    "redo | 1 | ab",
     "count | 1 0 | ab",
 ];
 
@@ -341,6 +396,8 @@ const TABLES: &[(u32, &[Row])] = &[
     (1, SETTLED),
     (2, FORGOTTEN),
     (2, SWEPT),
+    (2, EMPTIED),
+    (2, OVERFULL),
     (2, REFUSED),
 ];
 

@@ -1,4 +1,4 @@
-use Rattle.std.proofs.Common.{◌+◌, drop, ap, subst, arith}
+use Rattle.std.proofs.Common.{◌+◌, drop, ap, subst}
 use Rattle.std.specs.Prelude.{ℕ, Option, IfSome, reverse, slice_index, ◌++◌, ◌≡◌, ◌<◌, ◌^◌}
 use Rattle.rls_seen.specs.Seen.{idents_over}
 use Rattle.rls_steps.specs.Index.{named_places, all_places}

@@ -1,10 +1,11 @@
-use Rattle.std.proofs.Common.{◌≡◌, ◌++◌, [], ℕ, List, map, refl, subst}
+use Rattle.std.proofs.Common.{◌≡◌, ◌++◌, ℕ, List, arith, length, map, refl, sym, subst, append-nil}
 use Rattle.rls_seen.specs.Edits.{IsFault}
 use Rattle.rls_seen.specs.Seen.{text_over}
-use Rattle.rls_steps.specs.Courses.{FitRanges, cut_ranges}
-use Rattle.rls_steps.specs.Recorded.{held_by, steps_of}
+use Rattle.rls_steps.specs.Courses.{FitRanges}
+use Rattle.rls_steps.specs.Recorded.{held_by}
 use Rattle.rls_steps.specs.Returning.{ranges_fault, IsPartCut}
 use Rattle.rls_steps.specs.StepChanges.{range_change, AreTold}
+use Rattle.rls_steps.proofs.Cutting.{some_out, none_out, no_ranges}
 use Rattle.rls_steps.proofs.EditsTold.{label_edits}
 use Rattle.rls_steps.proofs.returning.take_out.Goals as goal
 
@@ -35,15 +36,18 @@ returns-clause-held c =
     let s = c.args.replica.now in
     let h = held_by s c.args.next.now c.args.names.now in
     let n = held_by c.cut_all.new.replica c.cut_all.new.next c.cut_all.new.names in
-    let same = c.in-Ok.ensures.ranges c.args.next.now in
-    subst (λ (rs : List (ℕ × ℕ)). n ≡ (cut_ranges h rs []).held) same c.in-Ok-cut_all.ensures.held
+    let some : length c.in-Ok.ranges.items ≡ 0 → ⊥ = λ e. omega (arith, e, c.if-len-eq0.false) in
+    let done = c.in-Ok-cut_all.ensures in
+    (some_out h n c.args.labels.now c.in-Ok.ranges.items c.args.group c.args.other.now.items c.cut_all.new.other.items (c.in-Ok.ensures.ranges c.args.next.now) some done.fits done.held done.stack).held
 
 pub returns-clause-stack : goal.returns-clause-stack
 returns-clause-stack c =
     let s = c.args.replica.now in
     let h = held_by s c.args.next.now c.args.names.now in
-    let same = c.in-Ok.ensures.ranges c.args.next.now in
-    subst (λ (rs : List (ℕ × ℕ)). c.cut_all.new.other.items ≡ c.args.other.now.items ++ steps_of c.args.group (cut_ranges h rs []).other) same c.in-Ok-cut_all.ensures.stack
+    let n = held_by c.cut_all.new.replica c.cut_all.new.next c.cut_all.new.names in
+    let some : length c.in-Ok.ranges.items ≡ 0 → ⊥ = λ e. omega (arith, e, c.if-len-eq0.false) in
+    let done = c.in-Ok-cut_all.ensures in
+    (some_out h n c.args.labels.now c.in-Ok.ranges.items c.args.group c.args.other.now.items c.cut_all.new.other.items (c.in-Ok.ensures.ranges c.args.next.now) some done.fits done.held done.stack).stack
 
 pub returns-in-Err-clause-told : goal.returns-in-Err-clause-told
 returns-in-Err-clause-told c =
@@ -67,3 +71,24 @@ returns-in-Err-clause-edits c = λ u.
 
 pub returns-in_default-clause-edits : goal.returns-in_default-clause-edits
 returns-in_default-clause-edits c = λ u. absurd (u refl)
+
+pub returns-then-len-eq0-clause-fits : goal.returns-then-len-eq0-clause-fits
+returns-then-len-eq0-clause-fits c =
+    let h = held_by c.args.replica.now c.args.next.now c.args.names.now in
+    (none_out h c.args.labels.now c.in-Ok.ranges.items c.args.group c.args.other.now.items c.push_empty.new.steps.items (c.in-Ok.ensures.ranges c.args.next.now) (omega (arith, c.if-len-eq0.true)) c.in-Ok-push_empty.ensures.ok).fits
+
+pub returns-then-len-eq0-clause-held : goal.returns-then-len-eq0-clause-held
+returns-then-len-eq0-clause-held c =
+    let h = held_by c.args.replica.now c.args.next.now c.args.names.now in
+    (none_out h c.args.labels.now c.in-Ok.ranges.items c.args.group c.args.other.now.items c.push_empty.new.steps.items (c.in-Ok.ensures.ranges c.args.next.now) (omega (arith, c.if-len-eq0.true)) c.in-Ok-push_empty.ensures.ok).held
+
+pub returns-then-len-eq0-clause-stack : goal.returns-then-len-eq0-clause-stack
+returns-then-len-eq0-clause-stack c =
+    let h = held_by c.args.replica.now c.args.next.now c.args.names.now in
+    (none_out h c.args.labels.now c.in-Ok.ranges.items c.args.group c.args.other.now.items c.push_empty.new.steps.items (c.in-Ok.ensures.ranges c.args.next.now) (omega (arith, c.if-len-eq0.true)) c.in-Ok-push_empty.ensures.ok).stack
+
+pub returns-then-len-eq0-clause-changes : goal.returns-then-len-eq0-clause-changes
+returns-then-len-eq0-clause-changes c =
+    let h = held_by c.args.replica.now c.args.next.now c.args.names.now in
+    let cs = c.args.changes.now.items in
+    subst (λ (rs : List (ℕ × ℕ)). cs ≡ cs ++ map range_change rs) (no_ranges h c.args.labels.now c.in-Ok.ranges.items (c.in-Ok.ensures.ranges c.args.next.now) (omega (arith, c.if-len-eq0.true))) (sym (append-nil cs))

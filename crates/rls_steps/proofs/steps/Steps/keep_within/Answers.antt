@@ -1,9 +1,9 @@
 use Rattle.std.proofs.lemmas.Result.{on_ok_weaker}
-use Rattle.rls_steps.proofs.Keeping.{kept_all, kept_shows}
+use Rattle.rls_steps.proofs.Keeping.{kept_overfull, kept_shows}
 use Rattle.rls_steps.proofs.steps.Steps.keep_within.Goals as goal
 
 pub returns-then-len-self-clause-shows : goal.returns-then-len-self-clause-shows
-returns-then-len-self-clause-shows c = λ d x. kept_all c.args.replica.now c.args.self.now d x
+returns-then-len-self-clause-shows c = λ d x. kept_overfull c.args.replica.now c.args.self.now c.drop_overfull.new.self d c.drop_overfull.ensures.left x
 
 pub returns-in-Err-clause-dropped : goal.returns-in-Err-clause-dropped
 returns-in-Err-clause-dropped c = λ e h. (c.in-Err.ensures.dropped e).0 h
