@@ -1,6 +1,6 @@
 -- The worked example of two sessions in turn.
-use Rattle.std.proofs.Common.{◌≡◌, ◌<◌, ℕ, zero, suc, true, List, [], ◌∷◌, length, nat_lt, refl, inl, arith}
-use Rattle.std.specs.Prelude.{codes}
+use Rattle.std.proofs.Common.{◌≡◌, ◌<◌, ℕ, zero, suc, true, List, [], ◌∷◌, length, nat_lt, refl, inl, inr, arith}
+use Rattle.std.specs.Prelude.{◌++◌, codes}
 use Rattle.std.specs.Fmt.{digits}
 use Rattle.std.specs.List.{list_all}
 use Rattle.std.specs.Str.{chars, is_utf8}
@@ -15,7 +15,7 @@ use Rattle.rls_session.specs.Courses.{stretches}
 use Rattle.rls_session.specs.Orders.{order_of}
 use Rattle.rls_session.specs.Requests.{cut}
 use Rattle.rls_groups.specs.Events.{Begins, Resumes}
-use Rattle.rls_groups.specs.Examples.{SessionsAreEvents, does, reading, writing}
+use Rattle.rls_groups.specs.Examples.{SessionsAreEvents, answering, closing, does, opening}
 use Rattle.rls_groups.specs.Lives.{begun, lived}
 use Rattle.rls_groups.proofs.Between.{there_still}
 
@@ -32,9 +32,9 @@ two i h = h
 pub sessions_are_events : SessionsAreEvents
 unfolding undo.computing file.computing answer order_of cut is_utf8 chars encode digits number_of text_of stretches
 sessions_are_events =
-    let first = does 0 (Begins writing) in
-    let second = does 1 (Begins reading) in
-    let third = does 0 (Resumes (codes "i 1 b\nw\nq\n")) in
+    let first = does 0 (Begins (opening ++ closing)) in
+    let second = does 1 (Begins answering) in
+    let third = does 0 (Resumes closing) in
     let fourth = does 1 (Resumes (codes "q\n")) in
     let a = begun 7 2 in
     let b = lived a first in
@@ -42,11 +42,11 @@ sessions_are_events =
     let d = lived c third in
     let there = λ (i : ℕ) (h : i < 2). there_still i c third (there_still i b second (there_still i a first (two i h))) in (
       (
-        λ y. record { member = two 0 (omega arith); given = (are_bytes writing refl, (tt, (tt, tt))) },
+        λ y. record { member = two 0 (omega arith); given = (are_bytes (opening ++ closing) refl, (tt, (tt, tt))) },
         (
-          λ y. record { member = there_still 1 a first (two 1 (omega arith)); given = (are_bytes reading refl, (inl refl, (tt, tt))) },
+          λ y. record { member = there_still 1 a first (two 1 (omega arith)); given = (are_bytes answering refl, (inl refl, (tt, (tt, tt)))) },
           (
-            λ y. record { member = there_still 0 b second (there_still 0 a first (two 0 (omega arith))); given = (are_bytes (codes "i 1 b\nw\nq\n") refl, (tt, tt)) },
+            λ y. record { member = there_still 0 b second (there_still 0 a first (two 0 (omega arith))); given = (are_bytes closing refl, (inr (inl refl), (tt, tt))) },
             (
               λ y. record { member = there 1 (omega arith); given = (are_bytes (codes "q\n") refl, tt) },
               (λ y. record { member = there_still 0 d fourth (there 0 (omega arith)); given = (are_bytes (codes "q\n") refl, tt) }, tt),
@@ -54,6 +54,7 @@ sessions_are_events =
           ),
         ),
       ),
+      refl,
       refl,
       refl,
     )

@@ -34,7 +34,8 @@ pub fn stops_are_events<D: Disk>()
     ensures stores { StoppedStores D.moment D.left_since (StoreGives D.retries D.seen D.may_leave D.moment D.left_since) }
 {}
 
-/// The premises can be met, by a worked example of two sessions in turn: one stores three times, and the other takes its message in between.
+/// The premises can be met, by a worked example of two sessions in turn: the one answers a message of the other, which takes the answer and goes
+/// on.
 pub fn events_of_sessions()
     ensures sessions_are_events { SessionsAreEvents }
 {}
