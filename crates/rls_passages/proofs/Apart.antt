@@ -20,9 +20,9 @@ use Rattle.rls_model.proofs.OneTree.{history_ident}
 use Rattle.rls_model.proofs.Distinct.{known}
 use Rattle.rls_model.proofs.HistoryNumbers.{one_number}
 use Rattle.rls_model.proofs.OneOrder as order
-use Rattle.rls_model.proofs.SameOps.{in_chars}
+use Rattle.rls_model.proofs.SameOps.{in_chars, number_of}
 use Rattle.rls_passages.specs.Passages.{HasSeen, Follows, IsPassage, AreMadeIn, IsInsertedBy, AreUnseen, IsPassageOf, PassagesApart, InsertionsApart, MadeApart}
-use Rattle.rls_passages.proofs.Between.{number_of, is_char, order_at, at_birth}
+use Rattle.rls_passages.proofs.Between.{is_char, order_at, at_birth}
 use Rattle.rls_passages.proofs.Between as between
 
 -- ---- the characters of an insertion are a passage

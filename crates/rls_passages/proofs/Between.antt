@@ -32,7 +32,7 @@ use Rattle.rls_model.specs.Editing.{made}
 use Rattle.rls_model.specs.Laws.{IsOfRename, IsUsedBy, precedes}
 use Rattle.rls_model.proofs.OneTree.{nodes, parents, history_ident, history_translate, history_order}
 use Rattle.rls_model.proofs.Distinct.{known}
-use Rattle.rls_model.proofs.SameOps.{chars_in, in_chars, in_nodes, same_epochs, top_kept}
+use Rattle.rls_model.proofs.SameOps.{chars_in, in_chars, in_nodes, number_of, same_epochs, top_kept}
 use Rattle.rls_passages.specs.Passages.{IsInsertedBy, AreMadeIn, SeenBetween}
 use Rattle.rls_passages.proofs.Inner.{Inner, inner_at, inner_more}
 use Rattle.rls_passages.proofs.Kept.{down_inner, up_inner}
@@ -70,18 +70,7 @@ near_at U Low i h = absurd (cc)
 near_at U (At p r s k) i h = h
 near_at U High i h = absurd (cc)
 
--- ---- an operation's number is that of its characters
-
-number_from : (o : Op) (i : ℕ) (x : List Tuple) (cs : List ℕ) (c : Character) → IsIn c (chars_from o i x cs) → (o.author ≡ c.author) × (o.seq ≡ c.seq)
-number_from o i x [] c p = absurd p
-number_from o i x (d ∷ cs) c (inl e) = (ap (λ (c : Character). c.author) e, ap (λ (c : Character). c.seq) e)
-number_from o i x (d ∷ cs) c (inr p) = number_from o (suc i) (shifted (pos 1) x) cs c p
-
-pub number_of : (o : Op) (b : Body) (c : Character) → IsIn c (chars_of o b) → (o.author ≡ c.author) × (o.seq ≡ c.seq)
-number_of o (Insert first text) c p = number_from o 0 first text c p
-number_of o (Delete targets) c p = absurd p
-number_of o (Rename xs) c p = absurd p
-number_of o Leave c p = absurd p
+-- ---- an operation's epoch is that of its characters
 
 epoch_from : (o : Op) (i : ℕ) (x : List Tuple) (cs : List ℕ) (c : Character) → IsIn c (chars_from o i x cs) → c.epoch ≡ o.epoch
 epoch_from o i x [] c p = absurd p

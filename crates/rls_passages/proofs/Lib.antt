@@ -9,3 +9,5 @@ pub mod WritesBefore
 pub mod Stay
 pub mod Limits
 pub mod Worlds
+pub mod Lasting
+pub mod Rounds

@@ -1,5 +1,6 @@
 //! Laws of passages. Each call runs nothing and takes no memory; its contract states the fact.
 
+ghost use Rattle.rls_passages.specs.Lasting.{WorldsLast};
 ghost use Rattle.rls_passages.specs.Limits.{Limits};
 ghost use Rattle.rls_passages.specs.Passages.{MadeApart, PassagesStay, PastsMade, WorldsApart, WritesBefore, WritesOn};
 
@@ -12,6 +13,13 @@ pub fn made_apart()
 /// In a world passages that were written apart stand apart.
 pub fn worlds_apart()
     ensures worlds_apart { WorldsApart }
+{}
+
+/// In a world a character that was inserted is shown by each history of a member that has its insertion, unless that history has a deletion
+/// too that was to take out this character, of a member that was shown it. And it stands, for all members and for ever, between what its own
+/// member was shown before the place and behind it.
+pub fn worlds_last()
+    ensures worlds_last { WorldsLast }
 {}
 
 /// Who writes right behind the end of an own passage goes on with it, unless something was written there already.
