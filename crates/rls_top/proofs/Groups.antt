@@ -10,10 +10,11 @@ use Rattle.rls_ident.proofs.Positions.{get_of}
 use Rattle.rls_ops.specs.declared.message.Message.{Message}
 use Rattle.rls_ops.specs.declared.op.Op.{Op}
 use Rattle.rls_codec.specs.CodecLaws.{IsMessage}
+use Rattle.rls_model.specs.declared.edit.Edit.TheVariants as edits
 use Rattle.rls_model.specs.Document.{idents, text}
 use Rattle.rls_model.specs.Epochs.{greatest}
 use Rattle.rls_model.specs.History.{History, count}
-use Rattle.rls_model.specs.Laws.{IsAt, IsFront, IsGathered, IsPartOf, ShowSame}
+use Rattle.rls_model.specs.Laws.{IsAt, IsFront, IsGathered, IsPartOf, IsPast, ShowSame, edited}
 use Rattle.rls_model.specs.Legal.{AreNumbers}
 use Rattle.rls_model.specs.Receiving.{State}
 use Rattle.rls_model.specs.WellFormed.{IsLarge}
@@ -27,6 +28,7 @@ use Rattle.rls_model.proofs.WorldsLaws as worlds
 use Rattle.rls_model.proofs.OnePlace.{get_set_other, get_set_same, got_below, length-set}
 use Rattle.rls_model.proofs.HistoryNumbers.{front_ops, front_self, front_trans}
 use Rattle.rls_passages.proofs.Apart as passages
+use Rattle.rls_passages.proofs.Lasting.{between, deleted_by, past_legal, past_part, stay}
 use Rattle.rls_passages.proofs.Worlds.{good_made}
 use Rattle.rls_runs.specs.Runs.{runs_of}
 use Rattle.rls_runs.proofs.RunPlaces.{get_left, get_right}
@@ -49,7 +51,7 @@ use Rattle.rls_stages.proofs.Files.{IsOpened, opened}
 use Rattle.rls_top.specs.Due.{Due, due_at, due_of_words, due_on, shows}
 use Rattle.rls_top.specs.Headline.{new_state}
 use Rattle.rls_top.specs.Words.{command_of}
-use Rattle.rls_top.specs.Groups.{AllTaken, AreOfGroup, BeginsWithNew, EqualCountsShowSame, Group, GroupsClean, InOneOrder, IsFileOf, IsMadeOrLong, IsOfEditsAlone, IsOfGroup, IsOfMember, IsOrderedBy, IsReading, IsTakenTooLong, MemberCommand, NoneRefused, NoneReleased, WaitingMade, after_command, after_commands, after_due, due_in, due_of, files_with, fresh_group, messages_in, refused_in, stored_in}
+use Rattle.rls_top.specs.Groups.{AllTaken, AreOfGroup, BeginsWithNew, EqualCountsShowSame, Group, GroupsClean, InOneOrder, IsFileOf, IsInOrder, IsMadeOrLong, IsOfEditsAlone, IsOfGroup, IsOfMember, IsOnFile, IsOrderedBy, IsReading, IsTakenTooLong, MemberCommand, NoneRefused, NoneReleased, WaitingMade, after_command, after_commands, after_due, due_in, due_of, files_with, fresh_group, messages_in, refused_in, stored_in}
 use Rattle.rls_top.proofs.GroupCommands.{IsKeptFor, bytes_with, command_leads, edits_alone, kept_for, leave_alone, opened_at, same_ok, take_makes}
 use Rattle.rls_top.proofs.Fresh.{fresh_short}
 use Rattle.rls_top.proofs.Headlines.{ids_alike}
@@ -319,15 +321,35 @@ moment g n G u v M i x later all l =
       (part, (order.law M all.0).2 t.history k.legal part),
     )
 
-ordered : (g n : ℕ) (cs : List MemberCommand) (v : World) → 0 < length v.states → Stands g n v → AtEach g n (fresh_group g n) cs v → InOneOrder g n cs
-ordered g n cs v some a each =
+-- what a member's history was in the last world, its file stands for a history that goes on from it
+on_file : (g n : ℕ) (G : Group) (v : World) → Matches g n G v → (i : ℕ) (H : History) → IsPast v i H → IsOnFile G i H
+on_file g n G v x i H p = let f = x.file i p.0 p.1 in (p.0, subst (λ (o : Option (List ℕ)). StandsIn (Some o) p.0) (sym f.1) (f.2).stands, p.2)
+
+ordered : (g n : ℕ) (cs : List MemberCommand) (v : World) → 0 < length v.states → Matches g n (after_commands (fresh_group g n) cs) v → AtEach g n (fresh_group g n) cs v → InOneOrder g n cs
+ordered g n cs v some x each =
+    let good = (x.stands).good in
     let s = get_of v.states 0 some in
-    let all = one_history v 0 s.0 a.good s.1 in
+    let all = one_history v 0 s.0 good s.1 in
     let M = all.0 in
-    (M, (all.1).0, (order.law M (all.1).0).0, passages.law M (all.1).0 (good_made v M a.good all.1), λ before after i e l. let r = each before after e in let m = moment g n (after_commands (fresh_group g n) before) r.0 v M i r.1 r.2 all.1 l in (m.0, m.2, m.3))
+    (M, (all.1).0, (order.law M (all.1).0).0, passages.law M (all.1).0 (good_made v M good all.1), λ before after i e l. at_moment M all.1 before i (each before after e) l)
+  where
+    at_moment : (M : History) → IsGathered v M → (before : List MemberCommand) (i : ℕ) → (u : World) × Matches g n (after_commands (fresh_group g n) before) u × IsLater u v → i < n →
+        IsInOrder g n (after_commands (fresh_group g n) before) (after_commands (fresh_group g n) cs) M i
+    at_moment M all before i r l =
+        let good = (x.stands).good in
+        let m = moment g n (after_commands (fresh_group g n) before) r.0 v M i r.1 r.2 all l in
+        let later = r.2 i m.0 m.1 in
+        let past : (H : History) → IsFront H (m.0).history → IsPast v i H = λ H f. (later.0, later.1, front_trans H (m.0).history (later.0).history f later.2) in
+        record {
+          state = m.0;
+          member = m.2;
+          ordered = λ H f. let part = past_part v good M all i H (past H f) in (part, (order.law M all.0).2 H (past_legal v good i H (past H f)) part);
+          between = λ j at text H cs c is fits f shows q. between v good M all i at text H cs c is fits (past (edited H (edits.Insert at text)) f) shows q;
+          lasting = λ H c f p. ⊎_elim (λ q. inl q) (λ d. inr (deleted_by M H c (IsPast v) (IsOnFile (after_commands (fresh_group g n) cs)) (on_file g n (after_commands (fresh_group g n) cs) v x) d)) (stay v good M all i H c (past H f) p);
+        }
 
 pub law : GroupsClean
 law g n cs large some few p =
     let r = all_commands g n (fresh_group g n) (empty_world g n) cs (fresh_matches g n large few) p in
     let G = after_commands (fresh_group g n) cs in
-    (begins g n large few, clean g n G r.0 r.1, alone g n G r.0 r.1, waits g n G r.0 r.1, taken g n G r.0 r.1, equal g n G r.0 r.1, ordered g n cs r.0 (let size = ((r.1).stands.belongs).count in omega (arith, some, size)) (r.1).stands r.3)
+    (begins g n large few, clean g n G r.0 r.1, alone g n G r.0 r.1, waits g n G r.0 r.1, taken g n G r.0 r.1, equal g n G r.0 r.1, ordered g n cs r.0 (let size = ((r.1).stands.belongs).count in omega (arith, some, size)) r.1 r.3)

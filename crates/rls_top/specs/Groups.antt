@@ -6,14 +6,15 @@ use Rattle.rls_ops.specs.declared.message.Message.{Message}
 use Rattle.rls_ops.specs.declared.op.Op.{Op}
 use Rattle.rls_codec.specs.CodecLaws.{IsMessage}
 use Rattle.rls_model.specs.Answers.{Reason}
-use Rattle.rls_model.specs.Document.{Character, chars, text}
+use Rattle.rls_model.specs.Document.{Character, chars, live, text}
 use Rattle.rls_model.specs.History.{History, count, group_of, me_of, members_of, ops}
-use Rattle.rls_model.specs.Laws.{IsPartOf, IsTotalOrder, Shows, precedes}
+use Rattle.rls_model.specs.Laws.{IsFront, IsPartOf, IsTotalOrder, Shows, precedes}
 use Rattle.rls_model.specs.Legal.{IsLegal}
 use Rattle.rls_model.specs.Parts.{parts}
 use Rattle.rls_model.specs.Receiving.{State}
 use Rattle.rls_model.specs.Taking.{take_message}
 use Rattle.rls_model.specs.WellFormed.{IsLarge}
+use Rattle.rls_passages.specs.Lasting.{IsDeletedIn, StandBetween}
 use Rattle.rls_passages.specs.Passages.{Apart}
 use Rattle.rls_file.specs.Files.{file_bytes}
 use Rattle.rls_seen.specs.Seen.{Seen}
@@ -176,11 +177,25 @@ AllTaken g = (c : MemberCommand) → IsOfGroup g c → command_of c.words ≡ So
 abbrev pub EqualCountsShowSame : Group → Type 0
 EqualCountsShowSame g = (i j : ℕ) (s t : State) (words : List (List ℕ)) (input : List ℕ) → IsFileOf g i s → IsFileOf g j t → count s.history ≡ count t.history → IsReading words → due_of g i words input ≡ due_of g j words input
 
--- one total order of all characters, in which passages that were written apart stand apart: after any of the commands each member's file
--- stands for a history of that member, which shows its characters in this order
+-- the member's file stands for a history that goes on from this one
+abbrev pub IsOnFile : Group → ℕ → History → Type 0
+IsOnFile g i H = (t : State) × IsFileOf g i t × IsFront H t.history
+
+-- The member's file stands for a history of that member, which shows its characters in the order of M, and so does each one that it goes on from.
+-- What was inserted there stands between what was shown before that place and behind it, and it is shown wherever it is known, unless a deletion is
+-- known there too, by which somebody that was shown it took it out.
+pub record IsInOrder (group members : ℕ) (now end : Group) (M : History) (i : ℕ) : Type 0 where
+  pub state : State
+  pub member : IsOfMember group members now i state
+  pub ordered : (H : History) → IsFront H state.history → IsOrderedBy M H
+  pub between : StandBetween M (λ j H. IsFront H state.history)
+  pub lasting : (H : History) (c : Character) → IsFront H state.history → IsIn c (chars H) → IsIn c (live H) ⊎ IsDeletedIn M (IsOnFile end) H c
+
+-- one total order of all characters, in which passages that were written apart stand apart, and in which each member's file is after any of the
+-- commands
 abbrev pub InOneOrder : ℕ → ℕ → List MemberCommand → Type 0
 InOneOrder group members cs = (M : History) × IsLegal M × IsTotalOrder (precedes M) (λ c. IsIn c (chars M)) × Apart M
-    × ((before after : List MemberCommand) (i : ℕ) → before ++ after ≡ cs → i < members → (t : State) × IsOfMember group members (after_commands (fresh_group group members) before) i t × IsOrderedBy M t.history)
+    × ((before after : List MemberCommand) (i : ℕ) → before ++ after ≡ cs → i < members → IsInOrder group members (after_commands (fresh_group group members) before) (after_commands (fresh_group group members) cs) M i)
 
 -- Whatever commands the members of a group give, each over its own file, and however the messages that they write are passed on: no
 -- command calls for a refused operation, edits release nothing, what waits was made by its author, each written message is taken unless the
