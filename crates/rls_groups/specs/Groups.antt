@@ -16,6 +16,7 @@ use Rattle.rls_model.specs.Legal.{IsLegal}
 use Rattle.rls_model.specs.Receiving.{State, accept}
 use Rattle.rls_model.specs.Taking.{take_message}
 use Rattle.rls_model.specs.WellFormed.{IsEdit, IsLarge}
+use Rattle.rls_passages.specs.Lasting.{StandBetween, StayUnlessDeleted}
 use Rattle.rls_passages.specs.Passages.{Apart}
 use Rattle.rls_seen.specs.Seen.{Seen, vector}
 use Rattle.rls_undo.specs.Undoing.{last_of}
@@ -221,19 +222,25 @@ pub record IsMoment (group members : ℕ) (now end : Life) (M : History) (i : �
   pub goes_on : (u : State) × IsHeld end i u × GoesOn state u
 
 -- One total order of all characters: at each moment each member's file stands for a history of that member, which shows its characters in
--- this order, and which stays the beginning of its later ones. Passages that were written apart stand apart in it. Each operation was made by
--- an edit of its author. Each edit does to the list of characters what was asked, and a deletion deletes, wherever it is known, just what was
--- asked.
+-- this order, and which stays the beginning of its later ones. So does each history that a member had at some time, also between two stores of
+-- a session, and what is shown there with a draft is the text of such a one. Passages that were written apart stand apart in it. Each operation
+-- was made by an edit of its author. Each edit does to the list of characters what was asked, and a deletion deletes, wherever it is known, just
+-- what was asked. What was inserted stands, in this order, between what was shown before that place and behind it; and it is shown wherever its
+-- insertion is known, unless a deletion is known there too, by which somebody that was shown it took it out.
 pub record InOneOrder (group members : ℕ) (es : List Event) (l : Life) : Type 0 where
   pub all : History
   pub legal : IsLegal all
   pub total : IsTotalOrder (precedes all) (λ c. IsIn c (chars all))
   pub apart : Apart all
   pub moments : (before after : List Event) (i : ℕ) → before ++ after ≡ es → i < members → IsMoment group members (lived_all (begun group members) before) l all i
+  pub pasts : (before after : List Event) (i : ℕ) (H : History) → before ++ after ≡ es → WasHeld (lived_all (begun group members) before) i H → WasHeld l i H × IsOrderedBy all H
+  pub drafts : (i : ℕ) (u : State) (c : Seat State) → WasHeld l i u.history → IsDraftMade u c → let t = (at_work by_history c).state in WasHeld l i t.history × IsOrderedBy all t.history × (text_in t ≡ shown by_history c)
   pub made_by_edits : (i : ℕ) (t : State) (o : Op) → IsHeld l i t → IsIn o (ops t.history) → (H : History) × (edit : model.Edit) × WasHeld l o.author (edited H edit) × IsEdit edit × (edit_fault H edit ≡ None) × (made H edit ≡ o)
   pub edits : (i : ℕ) (H : History) (edit : model.Edit) (cs : List Character) → IsEdit edit → edit_fault H edit ≡ None → WasHeld l i (edited H edit) → Shows (precedes all) H cs → Shows (precedes all) (edited H edit) (list_after H edit cs)
   pub deletions : (i j : ℕ) (H K : History) (edit : model.Edit) (cs : List Character) (c : Character) → WasHeld l i H → WasHeld l j K → Shows (precedes all) H cs → IsIn (made H edit) (ops K) → IsIn c (chars K) →
       IsNamedBy K (made H edit) c ↔ IsIn c (list_deleted edit cs)
+  pub between : StandBetween all (WasHeld l)
+  pub lasting : StayUnlessDeleted all (WasHeld l)
 
 -- ---- the statement
 
