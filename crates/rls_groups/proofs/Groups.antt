@@ -240,7 +240,7 @@ module _ (g n : ℕ) (l : Life) (w : World) (x : Lives g n l w) where
   if_ok (Ok s) P f = f s refl
   if_ok (Err e) P f = tt
 
-  session : (i : ℕ) (desk : Desk) (input : List ℕ) → i < length (l.group).files → IsBytes input → AreWritten l.group input → ((t : State) → IsAt w i t → IsWell t desk) → IsSession l.group i desk input
+  pub session : (i : ℕ) (desk : Desk) (input : List ℕ) → i < length (l.group).files → IsBytes input → AreWritten l.group input → ((t : State) → IsAt w i t → IsWell t desk) → IsSession l.group i desk input
   session i desk input m b p well = record { member = m; usable = if_ok (replica_at l.group i) (λ s. IsUsable s desk) (usable_desk i m desk well); bytes = b; written = p }
 
   runs : (i : ℕ) (action : Action) → IsOfGroup l.group i action → Runs g n l i (deed_of (l.desks i) action) w

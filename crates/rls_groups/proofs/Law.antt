@@ -8,7 +8,7 @@ use Rattle.rls_groups.specs.Lives.{AreOfGroup, after_deed, begun, deed_in, lived
 use Rattle.rls_groups.proofs.Groups.{AtEach, all_events, begun_lives, cleans, held_after, means, run_at, usable}
 use Rattle.rls_groups.proofs.Ordered.{ordered}
 
-each_meant : (g n : ℕ) (es : List Event) → AreOfGroup (begun g n) es → (v : World) → AtEach g n (begun g n) es v → EachMeant g n es
+pub each_meant : (g n : ℕ) (es : List Event) → AreOfGroup (begun g n) es → (v : World) → AtEach g n (begun g n) es v → EachMeant g n es
 each_meant g n es p v each before after e s q done stored =
     let r = each before (e ∷ after) q in
     let l = lived_all (begun g n) before in

@@ -15,7 +15,10 @@ mod Seated
 mod Sessions
 mod Groups
 mod Ordered
+mod Rounds
 mod Law
+mod Exchanged
+mod SessionsExchanged
 mod Between
 mod Runs
 mod Standing

@@ -68,7 +68,7 @@ module _ (g n : ℕ) (G : Group) (w : World) (x : Matches g n G w) (i : ℕ) (r 
   begins : Stands g n (with_done w i r.state [])
   begins = subst (Stands g n) (sym (ap (λ (xs : List State). record { states = xs; sent = w.sent ++ [] }) (set_get w.states i r.state r.at) ∙ ap (λ (ms : List Message). record { states = w.states; sent = ms }) (append-nil w.sent))) x.stands
 
-  first : IsSession G i desk input → Seats g n G w x i r.state r.at (seated (at_desk s desk)) (seated (at_desk r.state desk)) []
+  pub first : IsSession G i desk input → Seats g n G w x i r.state r.at (seated (at_desk s desk)) (seated (at_desk r.state desk)) []
   first q = record {
     alike = seated_alike (at_desk s desk) (at_desk r.state desk) (usable_alike r.bytes s r.state desk o (usable_here q));
     underway = record { stands = begins; storable = (r.kept).storable };

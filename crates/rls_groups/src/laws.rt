@@ -4,6 +4,7 @@ ghost use Rattle.rls_journal.specs.Keeper.{StoreGives};
 ghost use Rattle.rls_groups.specs.Examples.{SessionsAreEvents};
 ghost use Rattle.rls_groups.specs.Groups.{GroupsConverge};
 ghost use Rattle.rls_groups.specs.Premises.{PutBack, UnsavedHandedOn, UsedTwice};
+ghost use Rattle.rls_groups.specs.Rounds.{AllTold, OneHub, OneRound, SendsTell, SessionsExchange, TakesReceive};
 ghost use Rattle.rls_groups.specs.Runs.{CommandsLeave, SessionsLeave, StoppedStores, StopsLeave, StoresLeave};
 
 use rls_io::{Keeper, Sink, Source};
@@ -16,6 +17,20 @@ use rls_journal::Disk;
 /// history with the effect that was asked for.
 pub fn groups_converge()
     ensures groups_converge { GroupsConverge }
+{}
+
+/// In a group where nobody edits any more, who is told each operation by somebody that has it has all of them in the end, and nothing waits. So
+/// one round of messages makes members equal, each of them taken by a command or a session that stores, in whatever order: one from each to each
+/// other one, or one from each to one of them and then one from that one to each.
+/// What a `send` prints, and a session that stores answers to `s`, is such a message that is sent; what a `take` that stores reads, and what such
+/// a session takes, is one that is received.
+pub fn one_round()
+    ensures sends_tell { SendsTell }
+    ensures takes_receive { TakesReceive }
+    ensures sessions_exchange { SessionsExchange }
+    ensures all_told { AllTold }
+    ensures one_round { OneRound }
+    ensures one_hub { OneHub }
 {}
 
 /// What the clauses of `rls_top::run` and of `rls_session::serve` say of a call is an event of the group: the member's file is as before, or
