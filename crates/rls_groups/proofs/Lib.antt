@@ -26,3 +26,4 @@ mod Stores
 mod StoppedStores
 mod Premises
 mod Examples
+mod Parts

@@ -39,8 +39,8 @@ use Rattle.rls_groups.proofs.Standing.{Stands, acts, acts_all, answers, as_far, 
 cut_front : (old new : Option (List ℕ)) (xs ys : List ℕ) (n : ℕ) → n ≤ length xs → 0 < length ys → Appends old new (take n xs) → IsCutShort old new (xs ++ ys)
 cut_front old new xs ys n h some a = (n, omega (arith, length-append xs ys, h, some), subst (Appends old new) (sym (take-append-le n xs ys h)) a)
 
-cut_behind : (old new : Option (List ℕ)) (xs ys : List ℕ) (n : ℕ) → n < length ys → Appends old new (xs ++ take n ys) → IsCutShort old new (xs ++ ys)
-cut_behind old new xs ys n h a = (length xs + n, omega (arith, length-append xs ys, h), subst (Appends old new) (sym (take-append-add xs ys n)) a)
+cut_later : (old new : Option (List ℕ)) (xs ys : List ℕ) (n : ℕ) → n < length ys → Appends old new (xs ++ take n ys) → IsCutShort old new (xs ++ ys)
+cut_later old new xs ys n h a = (length xs + n, omega (arith, length-append xs ys, h), subst (Appends old new) (sym (take-append-add xs ys n)) a)
 
 none_written : (old new : Option (List ℕ)) → IsPart old new [] → Appends old new []
 none_written old new (zero, h, a) = a
@@ -52,7 +52,7 @@ cut_so d n file new_file old new e other = at_nine (eqb_tells n 9)
   where
     fails : FailsAt d file new_file old new → IsCutShort old new (d.replies ++ saved_text)
     fails (inl k) = cut_front old new d.replies saved_text k.1.0 (omega (arith, k.1.1)) (omega arith) k.1.2
-    fails (inr k) = cut_behind old new d.replies saved_text k.1.0 k.1.1 k.1.2
+    fails (inr k) = cut_later old new d.replies saved_text k.1.0 k.1.1 k.1.2
 
     at_nine : ((eqb n 9 ≡ true) × (n ≡ 9)) ⊎ ((eqb n 9 ≡ false) × (n ≢ 9)) → IsCutShort old new (d.replies ++ saved_text)
     at_nine (inl z) = fails (e.failing z.1)
@@ -135,7 +135,7 @@ module _ (i : ℕ) where
           few = omega (arith, k.few);
           more = k.more;
           begins = subst (Appends old new) (sym (append_assoc first begin k.more)) (appends_more old mid new first (begin ++ k.more) a k.begins);
-          cut_short = λ z. let q = k.cut_short z in cut_behind old new first (answered i (next i l action) (take (suc k.whole) others)) q.0 q.1 (appends_more old mid new first (take q.0 (answered i (next i l action) (take (suc k.whole) others))) a q.2);
+          cut_short = λ z. let q = k.cut_short z in cut_later old new first (answered i (next i l action) (take (suc k.whole) others)) q.0 q.1 (appends_more old mid new first (take q.0 (answered i (next i l action) (take (suc k.whole) others))) a q.2);
         }
 
     -- it ended in this stretch, or stored and went on

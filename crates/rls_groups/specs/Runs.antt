@@ -21,7 +21,7 @@ use Rattle.rls_session.specs.Serving.{SessionEnds}
 use Rattle.rls_session.specs.Courses.{Stretch, stretches}
 use Rattle.rls_session.specs.Sessions.{by_parts}
 use Rattle.rls_groups.specs.Stops.{LeavesOldOrDue, LeavesOldOrStores}
-use Rattle.rls_groups.specs.Events.{Action, Begins, Commands, Deed, Event, Performs, Resumes, Sits, empty_desk, replica_at, session_at, session_due, unanswered}
+use Rattle.rls_groups.specs.Events.{Action, AreWritten, Begins, Commands, Deed, Event, IsOfGroup, Performs, Resumes, Sits, empty_desk, replica_at, session_at, session_due, unanswered}
 use Rattle.rls_groups.specs.Lives.{Life, deed_in, lived, lived_all}
 
 -- the member's file, as the group has it
@@ -85,6 +85,16 @@ begins_over (a ∷ others) = Begins a.input ∷ goes_on_over others
 abbrev pub actions_over : List ℕ → List Action
 actions_over input = begins_over (stretches unanswered (λ u. u) tt input)
 
+-- the input of an action
+abbrev pub input_of : Action → List ℕ
+input_of (Performs words input) = input
+input_of (Begins input) = input
+input_of (Resumes input) = input
+
+-- Each action of a session over bytes may be an event of the group, as soon as the messages that it takes, up to its store, may be handed on.
+abbrev pub SessionsAreOfGroup : Type 0
+SessionsAreOfGroup = (g : Group) (i : ℕ) (input : List ℕ) (action : Action) → i < length g.files → IsBytes input → IsIn action (actions_over input) → AreWritten g (input_of action) → IsOfGroup g i action
+
 -- what a session answers in a run that stores, with the `saved` after it
 abbrev pub answered_by : Group → ℕ → Deed → List ℕ
 answered_by g i (Commands words input) = []
@@ -95,9 +105,9 @@ abbrev pub answered_in : ℕ → Life → List Event → List ℕ
 answered_in i l [] = []
 answered_in i l (e ∷ es) = (if (e.member == i) && e.done then answered_by l.group e.member (deed_in l e) else []) ++ answered_in i (lived l e) es
 
--- What a session that ended with this status wrote, if so many of these actions are done: all that is answered in the first of them, each with its
--- `saved`, and then some bytes. With another status than 0 at least one byte is missing of what is answered in one action more. So each
--- `saved` that is written, and what was answered before it, is of an action that is done.
+-- What a session wrote that ended with the status n, where the first k of these actions are done: all that is answered in some of these k, each
+-- with its `saved`, and then some bytes. With another status than 0 at least one byte is missing of what is answered in one action more. So
+-- each `saved` that is written, and what was answered before it, is of an action that is done.
 pub record IsWrittenBy (l : Life) (i : ℕ) (actions : List Action) (k n : ℕ) (old new : Option (List ℕ)) : Type 0 where
   pub whole : ℕ
   pub few : whole ≤ k

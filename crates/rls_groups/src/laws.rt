@@ -5,7 +5,7 @@ ghost use Rattle.rls_groups.specs.Examples.{SessionsAreEvents};
 ghost use Rattle.rls_groups.specs.Groups.{GroupsConverge};
 ghost use Rattle.rls_groups.specs.Premises.{PutBack, UnsavedHandedOn, UsedTwice};
 ghost use Rattle.rls_groups.specs.Rounds.{AllTold, OneHub, OneRound, SendsTell, SessionsExchange, TakesReceive};
-ghost use Rattle.rls_groups.specs.Runs.{CommandsLeave, SessionsLeave, StoppedStores, StopsLeave, StoresLeave};
+ghost use Rattle.rls_groups.specs.Runs.{CommandsLeave, SessionsAreOfGroup, SessionsLeave, StoppedStores, StopsLeave, StoresLeave};
 
 use rls_io::{Keeper, Sink, Source};
 use rls_journal::Disk;
@@ -49,9 +49,10 @@ pub fn stops_are_events<D: Disk>()
     ensures stores { StoppedStores D.moment D.left_since (StoreGives D.retries D.seen D.may_leave D.moment D.left_since) }
 {}
 
-/// The premises can be met, by a worked example of two sessions in turn: the one answers a message of the other, which takes the answer and goes
-/// on.
+/// Each part of a session, from store to store, may be an event of the group, as soon as what it takes may be handed on. So the premises can be
+/// met. A worked example is of two sessions in turn: the one answers a message of the other, which takes that answer.
 pub fn events_of_sessions()
+    ensures sessions_are_of_group { SessionsAreOfGroup }
     ensures sessions_are_events { SessionsAreEvents }
 {}
 
