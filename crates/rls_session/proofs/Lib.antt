@@ -28,6 +28,17 @@ pub mod Fitting
 pub mod Drafting
 pub mod AlikeSeats
 pub mod Shown
+pub mod InPlace
+pub mod Edited
+pub mod Turned
+mod GroupTexts
+mod Renames
+mod NamesOnce
+mod NamesKept
+mod NamesAlong
+mod Remembering
+pub mod Remembered
+mod UndoneAtOnce
 pub mod Alike
 pub mod Histories
 pub mod Drafts

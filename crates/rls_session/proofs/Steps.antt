@@ -86,7 +86,7 @@ kept_steps s t r q p h =
     })
 
 -- after an edit
-recorded_kept : (s : Seen) (edit : Edit) (r : Recorded) → IsTrue (keeps s r.epoch) → IsTrue (keeps s (recorded_on over s edit r).epoch)
+pub recorded_kept : (s : Seen) (edit : Edit) (r : Recorded) → IsTrue (keeps s r.epoch) → IsTrue (keeps s (recorded_on over s edit r).epoch)
 recorded_kept s (edits.Insert at cs) r k = greatest_kept s.epochs.top s.epochs.nodes
 recorded_kept s (edits.Delete at n) r k = greatest_kept s.epochs.top s.epochs.nodes
 recorded_kept s edits.Rename r k = k

@@ -8,10 +8,13 @@ pub mod Cursors
 pub mod Answers
 pub mod Drafts
 pub mod Seats
+pub mod InPlace
 pub mod Sessions
 pub mod SessionLaws
 pub mod Sent
 pub mod Desks
+pub mod Turns
+pub mod Remembering
 pub mod Devices
 pub mod Answering
 pub mod Due

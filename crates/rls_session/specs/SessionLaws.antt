@@ -1,7 +1,13 @@
 -- The statements of the laws.
 use Rattle.std.specs.Prelude.{◌≡◌, ◌≤◌, ◌++◌, ◌⊎◌, ℕ, List, [], ◌∷◌, None, codes, length}
+use Rattle.rls_codec.specs.CodecLaws.{IsBytes}
+use Rattle.rls_model.specs.Receiving.{State}
 use Rattle.rls_seen.specs.Sane.{IsSane}
 use Rattle.rls_seen.specs.Seen.{Seen, text_over}
+use Rattle.rls_seen.specs.Stands.{StandsFor}
+use Rattle.rls_file.specs.Stored.{AreWritable}
+use Rattle.rls_undo.specs.UndoLaws.{AreWhole}
+use Rattle.rls_steps.specs.GroundLaws as steps
 use Rattle.rls_anchor.specs.Anchors.{anchor_over}
 use Rattle.rls_places.specs.PlacesLaws.{FitsPlace}
 use Rattle.rls_places.specs.Words.{place_word}
@@ -12,13 +18,15 @@ use Rattle.rls_seen.specs.Edits.{edit_fault_over, edited}
 use Rattle.rls_seen.specs.Over.{released_all}
 use Rattle.rls_session.specs.declared.draft.Draft.{Draft}
 use Rattle.rls_session.specs.declared.orders.Order.TheVariants.{Change, Locate}
-use Rattle.rls_session.specs.Answers.{Kind, Sitting, spelled}
-use Rattle.rls_session.specs.Courses.{Answered}
+use Rattle.rls_session.specs.Answers.{Kind, Sitting, answer, spelled}
+use Rattle.rls_session.specs.Courses.{Answered, course, holds}
+use Rattle.rls_session.specs.Desks.{AreKept, IsWhole}
 use Rattle.rls_session.specs.Drafts.{draft_of, shown_by}
+use Rattle.rls_session.specs.InPlace.{AreNoChanges, IsNoChange, asked, in_place, state_after}
 use Rattle.rls_session.specs.Orders.{order_of}
 use Rattle.rls_session.specs.Replies.{anchor_text, cursor_text, located_text, noted_text, refused_text}
-use Rattle.rls_session.specs.Requests.{Does}
-use Rattle.rls_session.specs.Seats.{IsDrafted, Seat, made_each, making_fault, plan, respond, shown}
+use Rattle.rls_session.specs.Requests.{Does, Request}
+use Rattle.rls_session.specs.Seats.{IsDrafted, Seat, at_work, made_each, making_fault, plan, respond, says_at, seated, shown}
 use Rattle.rls_session.specs.Sessions.{by_parts}
 
 -- A line `a AT` is answered with a word, a line `l` with that word asks for the place that was written, and where nothing has happened since it
@@ -52,3 +60,42 @@ ShowsChange K b c a =
 abbrev pub ChangesShow : Type 0
 ChangesShow = (b : Seat Seen) (at count : ℕ) (text : List ℕ) → IsSane (b.sitting).state → IsText (b.draft).text → IsDrafted by_parts b → IsUnawaited b →
     ShowsChange by_parts b (draft_of at count text) (respond by_parts b (Does (Change at count text)))
+
+-- The replica stands for this history, and may be stored; the session goes back to nothing that was dropped, and to texts that consist of
+-- characters. So it is at the beginning of each session, and after each request.
+pub record IsOfHistory (d : Sitting Seen) (t : State) : Type 0 where
+  pub stands : StandsFor d.state t
+  pub sane : IsSane d.state
+  pub writable : AreWritable d.state
+  pub whole : IsWhole d.state d.entries d.cursors
+  pub texts : AreWhole d.entries
+  pub kept : AreKept d.state (d.recorded).epoch (d.recorded).names
+  pub spelled : steps.IsWhole d.recorded
+
+-- the same sitting at a history
+abbrev pub sitting_in : Sitting Seen → State → Sitting State
+sitting_in d t = record { state = t; entries = d.entries; cursors = d.cursors; recorded = d.recorded; tells = d.tells }
+
+-- ---- drafts as edits
+
+-- nothing that waits becomes ready by one of these edits, made one after another
+abbrev pub AreUnawaited : Seen → List Edit → Type 0
+AreUnawaited s [] = Unit {0}
+AreUnawaited s (edit ∷ edits) = (released_all (edited s edit) ≡ edited s edit) × AreUnawaited (edited s edit) edits
+
+-- so it is of the edits of a draft
+abbrev pub IsDraftUnawaited : Seat Seen → Type 0
+IsDraftUnawaited b = AreUnawaited (b.sitting).state (plan by_parts (b.sitting).state b.draft)
+
+-- A session does to its replica, and to all else that it works on, what the session without `e` does in which each draft's edits stand in its place,
+-- as lines `i` and `d`. So all other requests are answered the same. In a group nothing ever waits for these edits.
+abbrev pub ChangesAreEdits : Type 0
+ChangesAreEdits = (d : Sitting Seen) (t : State) (input : List ℕ) → IsOfHistory d t → IsBytes input →
+    let first = seated d in let b = (course (respond by_parts) first input).state in
+    holds (respond by_parts) (λ c request. IsDraftUnawaited c) first input → IsDraftUnawaited b →
+    let lines = in_place by_parts first (asked input) in let e = state_after (answer by_parts) d lines in
+    AreNoChanges lines × (at_work by_parts b ≡ e) × ((request : Request) → IsNoChange request → let a = answer by_parts e request in respond by_parts b request ≡ says_at a.reply (seated a.state))
+
+-- without `e` too, a session comes to the sitting after the requests of its input
+abbrev pub CoursesAreRequests : Type 0
+CoursesAreRequests = (d : Sitting Seen) (input : List ℕ) → (course (answer by_parts) d input).state ≡ state_after (answer by_parts) d (asked input)
