@@ -1,6 +1,6 @@
 -- A request of a session of a group, where nothing is drafted: what it is answered, and what it makes of the member's history.
 use Rattle.std.proofs.Common.{◌≡◌, ◌∙◌, ◌≤◌, ◌<◌, ◌-◌, ℕ, Bool, true, false, cond, ltb, nat_lt, zero, suc, List, [], ◌∷◌, ◌++◌, length, Option, Some, None, Result, Ok, Err, is_some, refl, sym, ap, subst, inl, inr}
-use Rattle.std.specs.Prelude.{◌&&◌, ◌==◌, codes, encode_utf8_all}
+use Rattle.std.specs.Prelude.{◌&&◌, ◌==◌, IsTrue, codes, encode_utf8_all, reverse}
 use Rattle.std.proofs.lemmas.List.{append-nil}
 use Rattle.rls_ident.specs.declared.limits.TheConstants.{INPUT_BYTES}
 use Rattle.rls_ident.specs.Lists.{IsIn}
@@ -38,23 +38,28 @@ use Rattle.rls_seen.proofs.Sending.{message_alike, message_fits}
 use Rattle.rls_file.proofs.HistoryMessages.{sent_is_message}
 use Rattle.rls_file.proofs.Storable.{released_still}
 use Rattle.rls_undo.specs.declared.entry.Entry.{Entry}
+use Rattle.rls_replica.specs.Names.{keeps}
+use Rattle.rls_undo.specs.Plans.{epoch_in}
 use Rattle.rls_undo.specs.Undoing.{last_of, performed, planned, refusal}
+use Rattle.rls_undo.specs.UndoLaws.{IsEntry, IsUndoneIn}
 use Rattle.rls_undo.proofs.Alike.{planned_alike}
-use Rattle.rls_undo.proofs.Histories.{plan_edits}
+use Rattle.rls_undo.proofs.Histories.{plan_edits, undone_in}
 use Rattle.rls_report.specs.declared.failures.LineFault.{LineFault}
 use Rattle.rls_report.specs.Reports.{take_text}
 use Rattle.rls_script.specs.declared.lines.Line.{Line}
-use Rattle.rls_stages.specs.Lines.{fault_in, text_in}
+use Rattle.rls_stages.specs.Lines.{allowed_by, fault_in, text_in}
 use Rattle.rls_stages.proofs.Meant.{IsLine, IsMeantWell, line_well}
 use Rattle.rls_top.specs.Groups.{Group}
 use Rattle.rls_top.proofs.Groups.{Matches, of_file, shown}
 use Rattle.rls_session.specs.declared.orders.Order.TheVariants as orders
 use Rattle.rls_session.specs.Answers.{Sitting, answer, edited, if_steps, made_changes, message_changes, read_line, rested, sent, taken, taken_at, text_reply, told, told_rested, undone, undone_by_plan, with_begun, with_caught_up, with_changes, with_state}
 use Rattle.rls_changes.specs.declared.change.Change.{Change}
+use Rattle.rls_changes.specs.Edits.{performed_edits_in}
 use Rattle.rls_changes.specs.Telling.{all_released_changes, all_released_changes_in, ready_changes, times_changes}
 use Rattle.rls_changes.proofs.TakenAlike.{released_alike}
 use Rattle.rls_steps.specs.declared.piece.Step.{Step}
-use Rattle.rls_steps.specs.Grounds.{Turned, within, again_on, back_on}
+use Rattle.rls_steps.specs.Grounds.{Held, Turned, within, again_edits, again_on, back_edits, back_on, exchanged, held_on, steps_edits}
+use Rattle.rls_steps.specs.Groups.{group_size}
 use Rattle.rls_steps.proofs.Performing.{turned_performed_in}
 use Rattle.rls_session.specs.Answers as answers
 use Rattle.rls_session.specs.Courses.{Answered}
@@ -62,7 +67,9 @@ use Rattle.rls_session.specs.Replies.{again_text, back_text, bytes_text, nothing
 use Rattle.rls_session.specs.Requests.{Request, Does, Takes}
 use Rattle.rls_session.specs.Seats.{seated}
 use Rattle.rls_session.specs.Sessions.{by_history, by_parts}
+use Rattle.rls_session.specs.Turns.{AgainTakesOwn, BackTakesOwn}
 use Rattle.rls_session.proofs.Given.{IsGiven}
+use Rattle.rls_session.proofs.Turned.{turns_take_own}
 use Rattle.rls_session.proofs.AlikeSittings.{AreAlike, AreAlmost, IsAlike}
 use Rattle.rls_session.proofs.AlikeSteps.{backed_almost, begun_stays, redone_almost, turned_whole}
 use Rattle.rls_session.proofs.Agreeing.{answer_alike, caught_up_stays, line_almost, taken_alike, undo_almost}
@@ -70,8 +77,9 @@ use Rattle.rls_session.proofs.Steps.{AreBegun, steps_begun}
 use Rattle.rls_session.proofs.Entries.{whole_at}
 use Rattle.rls_session.proofs.Whole.{last_undoable}
 use Rattle.rls_groups.specs.Events.{IsWritten, replied}
-use Rattle.rls_groups.specs.Groups.{IsAnswered, IsClean, IsTaken, IsTextOfAll, at_seat}
+use Rattle.rls_groups.specs.Groups.{AreMade, IsAnswered, IsClean, IsTaken, IsTextOfAll, IsUndone, at_seat}
 use Rattle.rls_groups.proofs.Commands.{message_taken}
+use Rattle.rls_groups.proofs.Making.{all_made, front_performed}
 use Rattle.rls_groups.proofs.Past.{past_same}
 use Rattle.rls_groups.proofs.Requests.{Steps}
 use Rattle.rls_groups.proofs.Staying.{Follows, follows_self}
@@ -167,10 +175,10 @@ module _ (g n : ℕ) (G : Group) (w : World) (x : Matches g n G w) (i : ℕ) (s 
 
     -- what it changes is told, as far as the history goes on
     made_step : (r : Request) (e : Sitting Seen) (cs : List Change) (a : Answered (Sitting Seen)) (y : Answered (Sitting State)) → AreAlmost a y → IsUnderway g n w i (y.state).state out × Follows f.state (y.state).state
-        → (IsAtRest (y.state).state → next_of r ≡ (y.state).state) → IsGiven r → (told_rested by_parts e cs a ≡ told e cs a → IsCleanHere d r) → IsAnswered (seated f) r → replied d r ≡ [] → Stepped d f out r
+        → (IsAtRest (y.state).state → next_of r ≡ (y.state).state) → IsGiven r → (told_rested by_parts e cs a ≡ told e cs a → IsCleanHere d r) → (next_of r ≡ (y.state).state → IsAnswered (seated f) r) → replied d r ≡ [] → Stepped d f out r
     made_step r e cs a y almost q same given clean meant none =
         let rest = ((q.0).storable).rest in
-        rested_moves r (y.state).state (record { underway = q.0; follows = q.1; same = same rest }) (answer_alike d f r given b.alike) (clean (told_same e cs a (y.state).state (almost.states).stands rest)) meant none
+        rested_moves r (y.state).state (record { underway = q.0; follows = q.1; same = same rest }) (answer_alike d f r given b.alike) (clean (told_same e cs a (y.state).state (almost.states).stands rest)) (meant (same rest)) none
 
     -- ---- edits
 
@@ -225,6 +233,50 @@ module _ (g n : ℕ) (G : Group) (w : World) (x : Matches g n G w) (i : ℕ) (s 
         go None = goes
         go (Some x) = goes
 
+    -- each of its edits is made, and unless one is refused the entry is undone
+    undo_meant : (e : Sitting Seen) (u : Sitting State) → IsAlike e u → u.state ≡ f.state → (o : Option Entry) → last_of u.entries ≡ o → IsUndone u.state o ((undone by_history u o).state).state
+    undo_meant e u alike same None l = record { edits = refl; text = λ x q. absurd cc }
+    undo_meant e u alike same (Some entry) l = record {
+      edits = subst (AreMade (allowed_by fault_in) u.state (performed_edits_in u.state plan)) (sym after) (subst (AreMade (allowed_by fault_in) u.state (performed_edits_in u.state plan)) front.2 (all_made g n w i s h (performed_edits_in u.state plan) u.state out front.0 front.1 here));
+      text = λ x q r. subst (λ (t : State). IsUndoneIn (u.state).history x t.history) (sym after) (texts x (one x q) r);
+    }
+      where
+        plan : List Edit
+        plan = planned (u.state).history entry
+
+        here : IsUnderway g n w i u.state out
+        here = subst (λ (t : State). IsUnderway g n w i t out) (sym same) b.underway
+
+        last : last_of e.entries ≡ Some entry
+        last = ap last_of alike.entries ∙ l
+
+        kept : IsTrue (keeps e.state (epoch_in entry))
+        kept = last_undoable e.state e.entries entry last (alike.whole).undoable
+
+        is : IsEntry entry
+        is = whole_at e.entries (length e.entries - 1) entry last alike.texts
+
+        are : AreEdits plan
+        are = subst AreEdits (planned_alike e.state u.state entry alike.stands kept) (plan_edits e.state entry alike.sane is)
+
+        front : AreEdits (performed_edits_in u.state plan) × (refusal u.state (performed_edits_in u.state plan) ≡ None) × (performed u.state (performed_edits_in u.state plan) ≡ performed u.state plan)
+        front = front_performed plan u.state are
+
+        by_plan : (x : Option EditError) → ((undone_by_plan by_history u plan x).state).state ≡ performed u.state plan
+        by_plan None = refl
+        by_plan (Some x) = refl
+
+        after : ((undone by_history u (Some entry)).state).state ≡ performed u.state plan
+        after = by_plan (refusal u.state plan)
+
+        one : (x : Entry) → Some entry ≡ Some x → entry ≡ x
+        one x q = cc
+
+        texts : (x : Entry) → entry ≡ x → refusal u.state (planned (u.state).history x) ≡ None → IsUndoneIn (u.state).history x (performed u.state plan).history
+        texts x q r =
+            let there : refusal u.state plan ≡ None = ap (λ (y : Entry). refusal u.state (planned (u.state).history y)) q ∙ r in
+            subst (λ (y : Entry). IsUndoneIn (u.state).history y (performed u.state plan).history) q (undone_in e.state u.state entry alike.sane alike.stands kept is there)
+
     undo_step : Stepped d f out (Does orders.Undo)
     unfolding answer
     undo_step =
@@ -232,7 +284,7 @@ module _ (g n : ℕ) (G : Group) (w : World) (x : Matches g n G w) (i : ℕ) (s 
         let e = with_caught_up by_parts d in
         let u = with_caught_up by_history f in
         let alike = caught_up_stays d f b.alike in
-        made_step r e _ _ _ (undo_almost e u alike) (undo_goes e u alike refl (last_of u.entries) refl) (λ k. rests _ k) tt (λ k. ap at_seat k) tt refl
+        made_step r e _ _ _ (undo_almost e u alike) (undo_goes e u alike refl (last_of u.entries) refl) (λ k. rests _ k) tt (λ k. ap at_seat k) (λ k. subst (IsUndone u.state (last_of u.entries)) (sym k) (undo_meant e u alike refl (last_of u.entries) refl)) refl
 
     -- ---- steps
 
@@ -241,6 +293,14 @@ module _ (g n : ℕ) (G : Group) (w : World) (x : Matches g n G w) (i : ℕ) (s 
         → let t = ((if_steps xs (answers.says nothing_text u) (answers.turned by_history u text a)).state).state in IsUnderway g n w i t out × Follows f.state t
     turned_goes [] text u a es same are is = (subst (λ (t : State). IsUnderway g n w i t out) (sym same) b.underway, subst (Follows f.state) (sym same) (follows_self f.state))
     turned_goes (x ∷ xs) text u a es same are is = subst (λ (t : State). IsUnderway g n w i t out × Follows f.state t) (sym is) (performs g n w i s h es f.state out are b.underway)
+
+    -- each of them is made
+    turned_meant : (k : Held State) (ps xs : List Step) → ps ≡ xs → (text : ℕ → List ℕ) (u : Sitting State) (a : Turned State) → u.state ≡ f.state → let es = steps_edits within (group_size ps) k (reverse ps) in AreEdits es → refusal f.state es ≡ None → a.state ≡ performed f.state es
+        → AreMade (allowed_by fault_in) f.state es ((if_steps xs (answers.says nothing_text u) (answers.turned by_history u text a)).state).state
+    turned_meant k ps [] e text u a same are fit is = subst (λ (qs : List Step). AreMade (allowed_by fault_in) f.state (steps_edits within (group_size qs) k (reverse qs)) u.state) (sym e) same
+    turned_meant k ps (x ∷ xs) e text u a same are fit is =
+        let es = steps_edits within (group_size ps) k (reverse ps) in
+        subst (AreMade (allowed_by fault_in) f.state es) (sym is) (all_made g n w i s h es f.state out are fit b.underway)
 
     abbrev parts_begun : Sitting Seen
     parts_begun = with_begun by_parts d
@@ -254,17 +314,27 @@ module _ (g n : ℕ) (G : Group) (w : World) (x : Matches g n G w) (i : ℕ) (s 
     begun : AreBegun d.state (parts_begun.recorded) (history_begun.recorded)
     begun = steps_begun d.state f.state d.recorded f.recorded (b.alike).stands (b.alike).steps
 
+    -- and takes out own characters alone
+    own : BackTakesOwn d × AgainTakesOwn d
+    own = turns_take_own d (b.alike).sane ((b.alike).steps).spelled
+
     back_step : Stepped d f out (Does orders.Back)
     unfolding answer
     back_step =
         let q = turned_goes (history_begun.recorded).past back_text history_begun (back_on within f.state (history_begun.recorded)) _ refl (turned_whole parts_begun history_begun begun stays).0 ((turned_performed_in f.state (history_begun.recorded)).0).state in
-        made_step (Does orders.Back) parts_begun _ _ _ (backed_almost parts_begun history_begun begun stays) q (λ r. rests _ r) tt (λ e. ap at_seat e) tt refl
+        let r = history_begun.recorded in
+        let p = (turned_performed_in f.state r).0 in
+        let meant = turned_meant (held_on within f.state r) r.past r.past refl back_text history_begun (back_on within f.state r) refl (turned_whole parts_begun history_begun begun stays).0 p.fit p.state in
+        made_step (Does orders.Back) parts_begun _ _ _ (backed_almost parts_begun history_begun begun stays) q (λ r. rests _ r) tt (λ e. (ap at_seat e, own.0)) (λ k. subst (AreMade (allowed_by fault_in) f.state (back_edits within f.state r)) (sym k) meant) refl
 
     again_step : Stepped d f out (Does orders.Again)
     unfolding answer
     again_step =
         let q = turned_goes (history_begun.recorded).future again_text history_begun (again_on within f.state (history_begun.recorded)) _ refl (turned_whole parts_begun history_begun begun stays).1 ((turned_performed_in f.state (history_begun.recorded)).1).state in
-        made_step (Does orders.Again) parts_begun _ _ _ (redone_almost parts_begun history_begun begun stays) q (λ r. rests _ r) tt (λ e. ap at_seat e) tt refl
+        let r = history_begun.recorded in
+        let p = (turned_performed_in f.state r).1 in
+        let meant = turned_meant (held_on within f.state (exchanged r)) r.future r.future refl again_text history_begun (again_on within f.state r) refl (turned_whole parts_begun history_begun begun stays).1 p.fit p.state in
+        made_step (Does orders.Again) parts_begun _ _ _ (redone_almost parts_begun history_begun begun stays) q (λ r. rests _ r) tt (λ e. (ap at_seat e, own.1)) (λ k. subst (AreMade (allowed_by fault_in) f.state (again_edits within f.state r)) (sym k) meant) refl
 
     -- ---- the cursor and the text
 

@@ -27,18 +27,18 @@ use Rattle.rls_top.specs.Words.{command_of}
 use Rattle.rls_top.proofs.GroupCommands.{Leads, command_leads, kept_for, opened_at, same_ok}
 use Rattle.rls_top.proofs.Groups.{IsLater, IsThere, Matches, fresh_matches, matches_with, there}
 use Rattle.rls_session.specs.Courses.{course, holds}
-use Rattle.rls_session.specs.SessionLaws.{IsUnawaited}
+use Rattle.rls_session.specs.SessionLaws.{IsOfHistory}
 use Rattle.rls_session.specs.Seats.{respond, seated}
 use Rattle.rls_session.specs.Answers.{resumed}
 use Rattle.rls_session.specs.Sessions.{by_history, by_parts}
 use Rattle.rls_session.proofs.Alike.{resumed_alike}
 use Rattle.rls_groups.specs.Events.{Action, AreWritten, Begins, Commands, Deed, Desk, Event, IsOfGroup, IsRun, IsSession, IsUsable, Performs, Resumes, Sits, after_run, at_desk, deed_of, desk_after, desk_by, desk_of, desk_on, due_on, empty_desk, printed_of, replica_at, replied_at, replied_on, saved_of, saved_with, session_at, session_due, stored_by, stored_of}
-use Rattle.rls_groups.specs.Groups.{DesksUsable, HasReport, IsClean, IsCommanded, IsHeld, IsMeant, IsSavedOrLong, SessionsClean}
+use Rattle.rls_groups.specs.Groups.{DesksUsable, HasReport, IsClean, IsCommanded, IsHeld, IsMadeAlone, IsMeant, IsSavedOrLong, SessionsClean}
 use Rattle.rls_groups.specs.Lives.{AreOfGroup, Life, after_deed, after_words, begun, deed_in, desks_run, lived, lived_all, states_run, states_with}
 use Rattle.rls_groups.proofs.Desks.{IsWell, same_desk, well_empty, well_resumed, well_usable}
 use Rattle.rls_groups.proofs.Staying.{Follows, follows_self, follows_trans}
 use Rattle.rls_groups.proofs.Commands.{command_follows, comes_states, command_meant, set_at}
-use Rattle.rls_groups.proofs.Sessions.{All, EndsSo, all, closes, ends_so, found, last_made, saved_or_long}
+use Rattle.rls_groups.proofs.Sessions.{All, EndsSo, all, closes, ends_so, found, last_made, of_history, saved_or_long}
 
 -- ---- what a group and a world have in common
 
@@ -217,14 +217,18 @@ module _ (g n : ℕ) (l : Life) (w : World) (x : Lives g n l w) where
         let q = k.requests in
         (r.state, held i r.state r.at, (ap (λ (y : Result Seen CommandError). (due_on y desk input).replies) (there_is k) ∙ q.replies, q.meant, last_made g n l.group w x.matches i r desk input k.replica k.opens q))
 
-    pub session_cleans : (s : Seen) × (replica_at l.group i ≡ Ok s) × IsSavedOrLong (session_at by_parts s desk input) (session_due l.group i desk input).ending × let first = seated (at_desk s desk) in holds (respond by_parts) (λ b request. IsUnawaited b × IsClean l.group b request) first input × IsUnawaited (course (respond by_parts) first input).state
+    pub session_cleans : (s : Seen) × (replica_at l.group i ≡ Ok s) × IsSavedOrLong (session_at by_parts s desk input) (session_due l.group i desk input).ending × let first = seated (at_desk s desk) in holds (respond by_parts) (λ b request. IsMadeAlone b × IsClean l.group b request) first input × IsMadeAlone (course (respond by_parts) first input).state × ((t : State) × IsOfHistory (at_desk s desk) t)
     session_cleans =
         let k = served in
         let c = session_at by_parts k.replica desk input in (
           k.replica,
           there_is k,
           subst (λ (y : Result Seen CommandError). IsSavedOrLong c (due_on y desk input).ending) (sym (there_is k)) (saved_or_long c (ends_so c)),
-          ((k.requests).clean, (closes g n l.group w x.matches i k.at desk input k.replica k.opens k.requests).unawaited),
+          (
+            (k.requests).clean,
+            (closes g n l.group w x.matches i k.at desk input k.replica k.opens k.requests).unawaited,
+            ((k.at).state, of_history g n l.group w x.matches i k.at desk input k.replica k.opens p),
+          ),
         )
 
   -- ---- any run

@@ -1,17 +1,20 @@
 -- A request of a session of a group, where something may be drafted: the draft is made, and then it is answered; or a change goes on with the draft.
-use Rattle.std.proofs.Common.{◌≡◌, ◌∙◌, ◌+◌, ◌≤◌, ℕ, Bool, true, false, cond, ◌⊎◌, List, [], ◌++◌, length, Option, Some, None, refl, sym, ap, subst, inl, inr}
+use Rattle.std.proofs.Common.{◌≡◌, ◌∙◌, ◌+◌, ◌≤◌, ℕ, Bool, true, false, cond, ◌⊎◌, List, [], ◌∷◌, ◌++◌, length, Option, Some, None, refl, sym, ap, subst, inl, inr}
 use Rattle.std.proofs.lemmas.List.{append-nil}
 use Rattle.rls_ops.specs.declared.message.Message.{Message}
 use Rattle.rls_model.specs.declared.edit.Edit.{Edit}
 use Rattle.rls_model.specs.declared.edit.EditError.{EditError}
 use Rattle.rls_model.specs.Document.{text}
 use Rattle.rls_model.specs.Laws.{IsAt, IsFront}
-use Rattle.rls_model.specs.Receiving.{State}
+use Rattle.rls_model.specs.Editing.{made as made_in}
+use Rattle.rls_model.specs.Receiving.{State, accept}
 use Rattle.rls_model.specs.Worlds.{World}
 use Rattle.rls_model.proofs.HistoryNumbers.{front_trans}
 use Rattle.rls_model.proofs.NothingReady.{IsAtRest}
 use Rattle.rls_seen.specs.Seen.{Seen, text_over}
+use Rattle.rls_seen.specs.Edits.{edited}
 use Rattle.rls_seen.specs.Stands.{StandsFor}
+use Rattle.rls_seen.proofs.Editing.{edit_faults_alike, edited_stands}
 use Rattle.rls_seen.proofs.Keeping.{text_alike}
 use Rattle.rls_seen.proofs.Releasing.{first_alike}
 use Rattle.rls_stages.specs.Lines.{allowed_by, fault_in, text_in}
@@ -22,24 +25,27 @@ use Rattle.rls_session.specs.declared.orders.Order.TheVariants as orders
 use Rattle.rls_session.specs.Answers.{Kind, Sitting, answer}
 use Rattle.rls_session.specs.Courses.{Answered}
 use Rattle.rls_session.specs.Drafts.{draft_of, is_none, merged, shown_by}
+use Rattle.rls_session.specs.InPlace.{draft_lines}
+use Rattle.rls_session.specs.InPlace as in_place
 use Rattle.rls_session.specs.Replies.{noted_text}
 use Rattle.rls_session.specs.Requests.{Request, Does}
 use Rattle.rls_session.specs.Seats.{Seat, at_work, begun_at, begun_draft, changed, draft_fault, goes_with, made_all, made_each, plan, respond, says_at, seat_of, seated, shown, worked}
-use Rattle.rls_session.specs.SessionLaws.{IsUnawaited}
+use Rattle.rls_session.specs.SessionLaws.{AreUnawaited}
 use Rattle.rls_session.specs.Sessions.{by_history, by_parts}
 use Rattle.rls_session.proofs.AlikeSeats.{AreSeatsAlike, at_work_alike, plan_alike, respond_alike, seated_alike}
 use Rattle.rls_session.proofs.AlikeSittings.{IsAlike}
 use Rattle.rls_session.proofs.Drafting.{draft_within, total_is}
-use Rattle.rls_session.proofs.Fitting.{IsMade, made_draft}
+use Rattle.rls_session.proofs.Fitting.{AreFit, IsMade, made_draft}
 use Rattle.rls_session.proofs.Given.{IsGiven}
+use Rattle.rls_session.proofs.InPlace.{AreDone, draft_made}
 use Rattle.rls_session.proofs.Shown.{change_shows}
 use Rattle.rls_groups.specs.Events.{IsWritten, replied_from}
-use Rattle.rls_groups.specs.Groups.{AreMade, GoesOn, IsAnswered, IsClean, IsDraftMade, IsMadeBefore, IsStored, state_after}
+use Rattle.rls_groups.specs.Groups.{AreMade, GoesOn, IsAnswered, IsClean, IsDraftMade, IsMadeAlone, IsMadeBefore, IsStored, state_after}
 use Rattle.rls_groups.proofs.Answered.{Both, IsOther, IsTold, Stepped, rested_at, steps}
-use Rattle.rls_groups.proofs.Making.{after_each, all_state, each_made, each_stands, fit_alike}
+use Rattle.rls_groups.proofs.Making.{after_each, all_state, each_made, each_rests, each_stands, fit_alike}
 use Rattle.rls_groups.proofs.Requests.{Steps}
 use Rattle.rls_groups.proofs.Staying.{Follows, follows_self, follows_trans, has_or_holds, is_there}
-use Rattle.rls_groups.proofs.Steps.{IsUnderway}
+use Rattle.rls_groups.proofs.Steps.{IsUnderway, edits as edits_on}
 
 -- ---- in a group
 
@@ -56,11 +62,21 @@ module _ (g n : ℕ) (G : Group) (w : World) (x : Matches g n G w) (i : ℕ) (s 
     pub follows : Follows (c.sitting).state (at_work by_history c).state
     pub edits : AreMade (allowed_by fault_in) (c.sitting).state (plan by_history (c.sitting).state c.draft) (at_work by_history c).state
     pub text_is : text_in (at_work by_history c).state ≡ shown by_history c
+    pub lines : in_place.state_after (answer by_history) c.sitting (draft_lines by_history c) ≡ at_work by_history c
     pub shows : text_over (at_work by_parts b).state ≡ shown by_parts b
-    pub unawaited : IsUnawaited b
+    pub unawaited : IsMadeAlone b
 
   shown_alike : (b : Seat Seen) (c : Seat State) → AreSeatsAlike b c → shown by_parts b ≡ shown by_history c
   shown_alike b c k = ap (shown_by b.draft) (text_alike (b.sitting).state (c.sitting).state (k.sittings).stands) ∙ ap (λ p. shown_by p (text_in (c.sitting).state)) k.draft
+
+  -- after each of these edits nothing that waits is ready
+  each_unawaited : (es : List Edit) (d : Seen) (t : State) (out : List Message) → StandsFor d t → AreFit d es → IsUnderway g n w i t out → AreUnawaited d es
+  each_unawaited [] d t out stands f u = tt
+  each_unawaited (e ∷ es) d t out stands f u =
+      let v = accept t (made_in t.history e) in
+      let after = edited_stands d t e f.0 f.1 stands in
+      let j = edits_on g n w i s h t out u e f.0 (sym (edit_faults_alike d t e stands) ∙ f.1) in
+      (rested_at (edited d e) (first_alike (edited d e) v after ∙ (j.storable).rest), each_unawaited es (edited d e) v out after f.2 j)
 
   pub made_well : (b : Seat Seen) (c : Seat State) (out : List Message) → Seats b c out → IsMadeWell b c out
   made_well b c out k = record {
@@ -68,8 +84,9 @@ module _ (g n : ℕ) (G : Group) (w : World) (x : Matches g n G w) (i : ℕ) (s 
     follows = follows;
     edits = subst (λ (es : List Edit). AreMade (allowed_by fault_in) f.state es (at_work by_history c).state) same (subst (AreMade (allowed_by fault_in) f.state es) (sym here) each.2);
     text_is = ap (λ (t : State). text_in t) here ∙ (text_then ∙ shown_alike b c k.alike);
+    lines = draft_made by_history c (subst (AreDone by_history f.state) same (each_rests g n w i s h es f.state out (fit_alike es d.state f.state those.stands draft.fit) k.underway));
     shows = text_alike (at_work by_parts b).state (at_work by_history c).state alike.stands ∙ (ap (λ (t : State). text_in t) here ∙ text_then);
-    unawaited = rested_at made.state (first_alike made.state u stands ∙ ((each.0).storable).rest);
+    unawaited = (rested_at made.state (first_alike made.state u stands ∙ ((each.0).storable).rest), each_unawaited es d.state f.state out those.stands draft.fit k.underway);
   }
     where
       d : Sitting Seen
@@ -132,7 +149,7 @@ module _ (g n : ℕ) (G : Group) (w : World) (x : Matches g n G w) (i : ℕ) (s 
   IsDone u c r = IsStored (at_work by_history u).state c r
 
   abbrev pub IsCleanFrom : Seat Seen → Request → Type 0
-  IsCleanFrom b r = IsUnawaited b × IsClean G b r
+  IsCleanFrom b r = IsMadeAlone b × IsClean G b r
 
   abbrev pub SeatStepped : Seat Seen → Seat State → List Message → Request → Type 0
   SeatStepped b c out r = Steps (respond by_parts) (respond by_history) replied_from Seats Later (λ b r. IsWritten G r) IsCleanFrom IsDone (IsTold g n G w x i s h) b c out r
@@ -143,7 +160,7 @@ module _ (g n : ℕ) (G : Group) (w : World) (x : Matches g n G w) (i : ℕ) (s 
 
     -- the draft is made before this seat
     pub drafts_made : (u : Seat State) → Follows (at_work by_history c).state (u.sitting).state → Later u u → IsDraftMade (at_work by_history u).state c
-    drafts_made u first l = record { edits = well.edits; text = well.text_is; goes_on = goes_on (at_work by_history c).state u first l.1 l.2 }
+    drafts_made u first l = record { edits = well.edits; text = well.text_is; lines = well.lines; goes_on = goes_on (at_work by_history c).state u first l.1 l.2 }
 
     -- ---- each request but a change
 

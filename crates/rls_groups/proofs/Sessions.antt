@@ -23,6 +23,7 @@ use Rattle.rls_top.proofs.Groups.{IsThere, Matches}
 use Rattle.rls_session.specs.Answers.{Sitting}
 use Rattle.rls_session.specs.Courses.{Course, course}
 use Rattle.rls_session.specs.Due.{due_of}
+use Rattle.rls_session.specs.SessionLaws.{IsOfHistory}
 use Rattle.rls_session.specs.Seats.{Seat, at_work, respond, seated}
 use Rattle.rls_session.specs.Sessions.{by_history, by_parts}
 use Rattle.rls_session.proofs.AlikeSeats.{seated_alike}
@@ -74,6 +75,10 @@ module _ (g n : ℕ) (G : Group) (w : World) (x : Matches g n G w) (i : ℕ) (r 
     underway = record { stands = begins; storable = (r.kept).storable };
     front = front_self (r.state).history;
   }
+
+  -- and the laws of sessions hold of it
+  pub of_history : IsSession G i desk input → IsOfHistory (at_desk s desk) r.state
+  of_history q = let a = usable_alike r.bytes s r.state desk o (usable_here q) in record { stands = a.stands; sane = a.sane; writable = a.writable; whole = a.whole; texts = a.texts; kept = (a.steps).kept; spelled = (a.steps).spelled }
 
   abbrev pub All : Type 0
   All = Went (respond by_parts) (respond by_history) replied_from (Seats g n G w x i r.state r.at) (Later g n G w x i r.state r.at) (λ b r. IsWritten G r) (IsCleanFrom g n G w x i r.state r.at) (IsDone g n G w x i r.state r.at) (IsTold g n G w x i r.state r.at) 0 (seated (at_desk s desk)) (seated (at_desk r.state desk)) input []

@@ -19,7 +19,10 @@ use Rattle.rls_model.specs.WellFormed.{IsEdit, IsLarge}
 use Rattle.rls_passages.specs.Lasting.{StandBetween, StayUnlessDeleted}
 use Rattle.rls_passages.specs.Passages.{Apart}
 use Rattle.rls_seen.specs.Seen.{Seen, vector}
-use Rattle.rls_undo.specs.Undoing.{last_of}
+use Rattle.rls_undo.specs.declared.entry.Entry.{Entry}
+use Rattle.rls_undo.specs.Undoing.{last_of, planned, refusal}
+use Rattle.rls_undo.specs.Undoing.{plan as planned_of}
+use Rattle.rls_undo.specs.UndoLaws.{IsUndoneIn}
 use Rattle.rls_report.specs.declared.failures.CommandError.{CommandError}
 use Rattle.rls_report.specs.declared.failures.CommandError.TheVariants.{TooLarge}
 use Rattle.rls_report.specs.declared.failures.LineFault.{LineFault}
@@ -37,16 +40,19 @@ use Rattle.rls_top.specs.Words.{command_of}
 use Rattle.rls_session.specs.declared.orders.Order.TheVariants as orders
 use Rattle.rls_codec.specs.Reading.{message_of}
 use Rattle.rls_changes.specs.ChangesLaws.{own_changes}
-use Rattle.rls_changes.specs.Edits.{edit_changes}
-use Rattle.rls_steps.specs.Grounds.{over, again_edits, back_edits}
-use Rattle.rls_session.specs.Answers.{Kind, Sitting, backed, edited as edited_by, made_changes, message_changes, read_line, redone, told, undone_changes, undone_last, with_begun, with_caught_up, with_changes}
+use Rattle.rls_changes.specs.Edits.{edit_changes, performed_edits_in}
+use Rattle.rls_steps.specs.Grounds.{over, within, again_edits, back_edits}
+use Rattle.rls_session.specs.Answers.{Kind, Sitting, answer, backed, edited as edited_by, made_changes, message_changes, read_line, redone, told, undone_changes, undone_last, with_begun, with_caught_up, with_changes}
 use Rattle.rls_session.specs.Courses.{Answered, Course, course, holds}
 use Rattle.rls_session.specs.Drafts.{draft_of}
+use Rattle.rls_session.specs.InPlace.{draft_lines}
+use Rattle.rls_session.specs.InPlace as in_place
 use Rattle.rls_session.specs.Replies.{bytes_text, ok_text}
 use Rattle.rls_session.specs.Requests.{Request, Does, Takes}
-use Rattle.rls_session.specs.SessionLaws.{IsUnawaited, ShowsChange}
+use Rattle.rls_session.specs.SessionLaws.{IsDraftUnawaited, IsOfHistory, IsUnawaited, ShowsChange}
 use Rattle.rls_session.specs.Seats.{Seat, at_work, plan, respond, says_at, seated, shown}
 use Rattle.rls_session.specs.Sessions.{by_history, by_parts}
+use Rattle.rls_session.specs.Turns.{AgainTakesOwn, BackTakesOwn}
 use Rattle.rls_groups.specs.Events.{Commands, Deed, Desk, Event, IsSession, IsUsable, Sits, at_desk, replica_at, replied_from, session_at, session_due, stored_by}
 use Rattle.rls_groups.specs.Lives.{AreOfGroup, Life, after_deed, begun, deed_in, lived, lived_all}
 
@@ -66,14 +72,14 @@ abbrev pub IsShown : {X : Type 0} → Kind X → Seat X → ℕ → ℕ → List
 IsShown K b at n cs = ShowsChange K b (draft_of at n cs) (respond K b (Does (orders.Change at n cs)))
 
 -- A change of the editor is shown. Every other request is answered once the draft is made: an edit, an undo and steps that are taken back or done
--- again release nothing that waits, and tell what they change alone; `t` shows what others show; a message is taken, with none of its operations
+-- again release nothing that waits, and tell what they change alone; such steps take out their own characters alone, or put back what was cut out; `t` shows what others show; a message is taken, with none of its operations
 -- refused; and the reply to `s` is the message that may be handed on. Of the rest the law says nothing.
 abbrev pub IsClean : Group → Seat Seen → Request → Type 0
 IsClean g b (Does (orders.Edit line)) = let d = at_work by_parts b in let r = read_line by_parts d.state line in respond by_parts b (Does (orders.Edit line)) ≡ at_seat (told d (made_changes r) (edited_by by_parts d r))
 IsClean g b (Does (orders.Change at n cs)) = IsShown by_parts b at n cs
 IsClean g b (Does orders.Undo) = let e = with_caught_up by_parts (at_work by_parts b) in respond by_parts b (Does orders.Undo) ≡ at_seat (told e (undone_changes by_parts e.state (last_of e.entries)) (undone_last by_parts e))
-IsClean g b (Does orders.Back) = let e = with_begun by_parts (at_work by_parts b) in respond by_parts b (Does orders.Back) ≡ at_seat (told e (edit_changes (back_edits over e.state e.recorded)) (backed by_parts e))
-IsClean g b (Does orders.Again) = let e = with_begun by_parts (at_work by_parts b) in respond by_parts b (Does orders.Again) ≡ at_seat (told e (edit_changes (again_edits over e.state e.recorded)) (redone by_parts e))
+IsClean g b (Does orders.Back) = let e = with_begun by_parts (at_work by_parts b) in (respond by_parts b (Does orders.Back) ≡ at_seat (told e (edit_changes (back_edits over e.state e.recorded)) (backed by_parts e))) × BackTakesOwn (at_work by_parts b)
+IsClean g b (Does orders.Again) = let e = with_begun by_parts (at_work by_parts b) in (respond by_parts b (Does orders.Again) ≡ at_seat (told e (edit_changes (again_edits over e.state e.recorded)) (redone by_parts e))) × AgainTakesOwn (at_work by_parts b)
 IsClean g b (Does orders.Close) = Unit {0}
 IsClean g b (Does (orders.Point side at n)) = Unit {0}
 IsClean g b (Does (orders.Place n)) = Unit {0}
@@ -95,11 +101,17 @@ IsClean g b (Takes message) = (applied released repeated held : ℕ) ×
 abbrev pub IsSavedOrLong : Course (Sitting Seen) → Result Seen CommandError → Type 0
 IsSavedOrLong c ending = (ending ≡ Ok (c.state).state) ⊎ ((ending ≡ Err TooLarge) × ((INPUT_BYTES < c.used) ⊎ (FILE_BYTES < length (bytes_over (c.state).state))))
 
+-- nothing that waits becomes ready by the draft when it is made, nor by one of its edits
+abbrev pub IsMadeAlone : Seat Seen → Type 0
+IsMadeAlone b = IsUnawaited b × IsDraftUnawaited b
+
 -- a session over a member's file finds a replica there, ends so, and answers each of its requests so; and nothing that waits is released by making
--- what is drafted before a request, and at the end
+-- what is drafted before a request, and at the end. Its replica stands for a history, so that the laws of sessions hold of it: it does what the session
+-- without `e` does with the edits of its drafts, and as long as nobody else edits, `z` and `y` lead through the texts before its groups
+-- (`rls_session::laws`)
 abbrev pub SessionsClean : Group → Type 0
 SessionsClean g = (i : ℕ) (desk : Desk) (input : List ℕ) → IsSession g i desk input → (s : Seen) × (replica_at g i ≡ Ok s) × IsSavedOrLong (session_at by_parts s desk input) (session_due g i desk input).ending
-    × let first = seated (at_desk s desk) in holds (respond by_parts) (λ b request. IsUnawaited b × IsClean g b request) first input × IsUnawaited (course (respond by_parts) first input).state
+    × let first = seated (at_desk s desk) in holds (respond by_parts) (λ b request. IsMadeAlone b × IsClean g b request) first input × IsMadeAlone (course (respond by_parts) first input).state × ((t : State) × IsOfHistory (at_desk s desk) t)
 
 -- So it is of each session of the group that goes on after a store: what it works on then goes back to nothing that its file has dropped.
 abbrev pub DesksUsable : Life → Type 0
@@ -141,13 +153,24 @@ pub record IsKept (c : Seat State) (request : Request) (edit : model.Edit) : Typ
   pub fits : edit_fault ((at_work by_history c).state).history edit ≡ None
   pub state : let t = (at_work by_history c).state in state_after (respond by_history c request) ≡ accept t (made t.history edit)
 
+-- By `u`: the last entry, if there is one, is taken back by edits that are made one after another, up to the first that is refused: each has no
+-- fault, its operation is accepted, so that it stands in the history from then on, and nothing else happens. If none is refused, just the characters
+-- are gone that the entry put in and that were still there, or what it took out stands in its place, and nothing else changed.
+pub record IsUndone (t : State) (entry : Option Entry) (u : State) : Type 0 where
+  pub edits : AreMade (allowed_by fault_in) t (performed_edits_in t (planned_of t.history entry)) u
+  pub text : (e : Entry) → entry ≡ Some e → refusal t (planned t.history e) ≡ None → IsUndoneIn t.history e u.history
+
+-- By `z` and `y`: the group is taken back, or done again, by edits that are made so, one after another.
+abbrev pub IsTurned : Sitting State → List model.Edit → State → Type 0
+IsTurned d edits u = AreMade (allowed_by fault_in) d.state edits u
+
 -- by a request, once the draft is made
 abbrev pub IsAnswered : Seat State → Request → Type 0
 IsAnswered c (Does (orders.Edit line)) = (edit : model.Edit) → read_line by_history (at_work by_history c).state line ≡ Ok edit → IsKept c (Does (orders.Edit line)) edit
 IsAnswered c (Does (orders.Change at n cs)) = IsShown by_history c at n cs
-IsAnswered c (Does orders.Undo) = Unit {0}
-IsAnswered c (Does orders.Back) = Unit {0}
-IsAnswered c (Does orders.Again) = Unit {0}
+IsAnswered c (Does orders.Undo) = let d = with_caught_up by_history (at_work by_history c) in IsUndone d.state (last_of d.entries) (state_after (respond by_history c (Does orders.Undo)))
+IsAnswered c (Does orders.Back) = let d = with_begun by_history (at_work by_history c) in IsTurned d (back_edits within d.state d.recorded) (state_after (respond by_history c (Does orders.Back)))
+IsAnswered c (Does orders.Again) = let d = with_begun by_history (at_work by_history c) in IsTurned d (again_edits within d.state d.recorded) (state_after (respond by_history c (Does orders.Again)))
 IsAnswered c (Does orders.Close) = Unit {0}
 IsAnswered c (Does (orders.Point side at n)) = Unit {0}
 IsAnswered c (Does (orders.Place n)) = Unit {0}
@@ -169,10 +192,12 @@ abbrev pub GoesOn : State → State → Type 0
 GoesOn t u = IsFront t.history u.history × ((o : Op) → HasOrHolds t o → HasOrHolds u o)
 
 -- What is shown with a draft is made: each edit that the draft means has no fault, its operation is accepted, and nothing else happens; the text is
--- then what was shown; and the history goes on from there to the one that is stored, in which these edits so stand.
+-- then what was shown; and the history goes on from there to the one that is stored, in which these edits so stand. As lines `i` and `d` they do the
+-- same to all that the session works on.
 pub record IsDraftMade (u : State) (c : Seat State) : Type 0 where
   pub edits : let t = (c.sitting).state in AreMade (allowed_by fault_in) t (plan by_history t c.draft) (at_work by_history c).state
   pub text : text_in (at_work by_history c).state ≡ shown by_history c
+  pub lines : in_place.state_after (answer by_history) c.sitting (draft_lines by_history c) ≡ at_work by_history c
   pub goes_on : GoesOn (at_work by_history c).state u
 
 -- before a request the draft is made, unless a change goes on with it, and nothing is made yet
