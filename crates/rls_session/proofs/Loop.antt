@@ -479,8 +479,6 @@ between_near answer first s input order a x y old new between other near = more 
         near_on answer (course answer first given) w.replies w.front w.bytes given w.before (size + k.size) s y w.comes w.given_is w.used_is
         (used_request answer s w.bytes order w.some w.order_is other) (longer w.bytes size k.size y (omega arith) n)
 
--- ---- why reading failed
-
 -- an end, as answering tells it
 abbrev ended : AnswerError → Result Halt AnswerError
 ended e = Err e

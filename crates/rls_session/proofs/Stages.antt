@@ -67,8 +67,6 @@ leaves_on : (r : Result (Unit {0}) Failure) (d : Due) (ds : List Due) (file mid_
 leaves_on r d [] file mid_file new_file old mid new done h = absurd h
 leaves_on r d (x ∷ ds) file mid_file new_file old mid new done h = inr (mid_file, mid, done, h)
 
--- ---- the file
-
 -- nothing is told of a file that wasn't
 pub after_none : (files : List (List ℕ)) → file_after files None ≡ None
 after_none [] = refl
@@ -82,8 +80,6 @@ after_store files bytes (Some kept) mid P none h p = subst (λ (o : Option (Opti
 stores_bytes : (r : Result Seen CommandError) (bytes : List ℕ) (file new_file : Option (Option (List ℕ))) → IsFileOf r bytes → IsKept r file new_file → device.Stores file new_file bytes
 stores_bytes (Ok s) bytes file new_file is k = subst (device.Stores file new_file) (sym is.0) k.0
 stores_bytes (Err e) bytes file new_file is k = absurd is
-
--- ---- one store at most
 
 -- the calls, and the file after them
 record HasLeft {K : Type 0} (store : K → List ℕ → Bool → K → Type 0) (ds : Option (List Due)) (r : Result (Unit {0}) Failure) (keeper_old keeper_new : K) (file new_file : Option (Option (List ℕ))) : Type 0 where
@@ -154,8 +150,6 @@ saved_left {K} store ds saves r k l file new_file mid new called saves_so keeps 
     go (Err (Fault Sink)) (inr c) w s a = one_left store ds file new_file (Err (Fault Sink)) c.0 k l c.2 refl (due c.0 c.1) tt (stores_bytes saves c.0 file new_file c.1 w.0)
     go (Err (Fault Memory)) (inl c) w s a = (none_left store ds file new_file (Fault Memory) k l (λ e. cc) c (same c)).0
     go (Err (Fault Memory)) (inr c) w s a = failed_left store ds file new_file (Fault Memory) c.0 k l c.2 tt (due c.0 c.1) (s (λ e. cc))
-
--- ---- the end of a stretch
 
 -- how near, by the first course
 near_first : (d : Sitting Seen) (come left : Option (List ℕ)) → IfSome come (λ given. IsNear given left (here d given).used) → IfSome come (λ given. IsNear given left (used_in (session_by by_parts d given)))
