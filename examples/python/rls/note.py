@@ -72,7 +72,7 @@ class Note:
         self._look_at(session.head())
         box = Quiet(self.circle, self.text.group, self.circle.me)
         box.taken = {int(k): bytes.fromhex(v) for k, v in self.state["taken"].items()}
-        if self.versions and not any(session.head().counts):
+        if any(self.versions) and not self.state["sent"] and not any(session.head().counts):
             # Begun anew under another number: the file's changes go into the text, so that has to be there first.
             box.receive(session)
             if not any(session.head().counts):

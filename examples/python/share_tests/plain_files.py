@@ -60,6 +60,16 @@ def test_stale_save() -> None:
     assert ben.rls("sync", "--mine", "a.md") == 0 and ben.read() == "", ben.said
 
 
+def test_empty_file() -> None:
+    """A file that is shared while it is empty: what is written into it later goes in, from whichever side."""
+    ada, ben = started("empty", "")
+    all_sync([ada, ben, ada])
+    assert ada.said == "", ada.said
+    ada.write("Bread\n")
+    all_sync([ada, ben])
+    assert ben.read() == "Bread\n", (ben.read(), ada.said)
+
+
 def test_save_in_between() -> None:
     """An editor saves just when the file is to be replaced; and one that writes in place has it open."""
     real_renamed = files.renamed
