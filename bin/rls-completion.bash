@@ -3,7 +3,7 @@ _rls() {
   local word=${COMP_WORDS[COMP_CWORD]}
   COMPREPLY=()
   if [ "$COMP_CWORD" = 1 ]; then
-    mapfile -t COMPREPLY < <(compgen -W 'share join sync who where drop give new edit text ids stat check send take head leave retire restart trial session build help --version' -- "$word")
+    mapfile -t COMPREPLY < <(compgen -W 'share join sync who where drop give part new edit text ids stat check send take head leave retire restart trial session build help --version' -- "$word")
   elif [ "$COMP_CWORD" = 2 ] && [ "${COMP_WORDS[1]}" = edit ]; then
     mapfile -t COMPREPLY < <(compgen -W '--text' -- "$word")
   elif [ "$COMP_CWORD" = 2 ] && [[ ${COMP_WORDS[1]} == @(send|retire) ]] && [ -e replica.gate ]; then

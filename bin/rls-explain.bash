@@ -144,7 +144,7 @@ explain_words() {
     *)
       part=
       [ -z "$1" ] || say "there is no command \`$1\`."
-      say 'the commands are: share, join, sync, who, where, drop, give, new, edit, text, send, take, head, stat, check, ids, session, leave, retire, restart, trial, build, help and --version.'
+      say 'the commands are: share, join, sync, who, where, drop, give, part, new, edit, text, send, take, head, stat, check, ids, session, leave, retire, restart, trial, build, help and --version.'
       ;;
   esac
   say "\`rls help$part\` explains the words."

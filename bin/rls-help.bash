@@ -29,7 +29,7 @@ rls: one text that several people write, each with a copy of their own.
   join SHARED [FOLDER]  take part: get a number, and the texts as files
   sync [--watch]        take what came, send what was saved in the files
   who, where, drop      who takes part; where it is kept; exchange no longer
-  give NUMBER           let another member give the numbers
+  give NUMBER, part     let another member give the numbers; leave for ever
 
   new GROUP ME MEMBERS  by hand: begin a replica in the current folder
   edit < SCRIPT         edit it, one edit a line; or: edit --text FILE
@@ -55,8 +55,12 @@ parts() {
 rls share SHARED [FILE|FOLDER ...]
 Shares texts through the folder SHARED, which a synchroniser, a network drive
 or a stick brings to others. FILE stays a plain file that any editor may
-change; of FOLDER each note is a text, also later ones. In a folder in which
-somebody shares already it adds texts. docs/SHARING.md
+change; of FOLDER each note is a text, also later ones, and of the folders in
+it. In a folder in which somebody shares already it adds texts.
+rls share SHARED --again [--members N]
+Begins a new circle in the same folder, if all numbers are given or the machine
+that gives them is lost. The others go over at their next `rls sync`, once this
+machine has seen them. docs/SHARING.md
 = join
 rls join SHARED [FOLDER] [--wait SECONDS]
 Takes part in what is shared in SHARED: asks for a number and waits for it (60
@@ -77,6 +81,10 @@ plugins.
 = drop
 rls drop FILE
 Exchanges this text no longer. The files stay where they are.
+= part
+rls part [SHARED]
+This machine leaves for ever: it exchanges once more, and then nothing is kept
+for its number any more. The files stay where they are. docs/SHARING.md
 = give
 rls give NUMBER [SHARED]
 From now on that member gives the numbers, once its machine has synced; this

@@ -34,6 +34,19 @@ expect 'a folder without a circle' 2 "$(of ada sync ../at.ben)"
 expect 'give' 0 "$(of ada give 1 ../shared)"
 expect 'give: the other one gives the numbers then' 0 "$(of ben sync)"
 expect 'give: it says so' yes "$(says 'this machine gives the numbers')"
+expect 'again' 0 "$(of ben share ../shared --again --members 4)"
+for one in ada ben ada ben ada; do
+  expect "again: $one goes over" 0 "$(of "$one" sync ../shared)"
+done
+expect 'again: who' 0 "$(of ada who ../shared)"
+expect 'again: numbers and names' 2 "$(grep -cE '^ 0 ben |^ 1 ada .*this machine$' out)"
+printf 'Bread and black tea\n' >at.ada/list.md
+expect 'again: a changed file' 0 "$(of ada sync list.md)"
+expect 'again: it is sent' 0 "$(of ben sync texts/list.md)"
+expect 'again: it comes' 'Bread and black tea' "$(cat at.ben/texts/list.md)"
+expect 'part, of who gives the numbers' 71 "$(of ben part ../shared)"
+expect 'part' 0 "$(of ada part ../shared)"
+expect 'part: there is no part any more' 2 "$(of ada sync ../shared)"
 # All programs but python3.
 mkdir none && ln -s /usr/bin/* /bin/* none/ 2>/dev/null
 rm -f none/python3

@@ -7,14 +7,15 @@ import sys
 import time
 import traceback
 
-from share_tests import copies, folders, numbers, people, plain_files
+from share_tests import copies, folders, numbers, people, plain_files, subfolders, successions
 
-LONG = {"giver_dies", "share_is_stopped", "newcomer_dies", "part_goes_on", "killed", "dies_at_each_step", "dies_with_a_save_in_between", "stopped_while_a_text_is_added", "mark_comes_first", "thousand_notes", "hostile_carrier"}
+LONG = {"giver_dies", "share_is_stopped", "newcomer_dies", "part_goes_on", "killed", "dies_at_each_step", "dies_with_a_save_in_between", "stopped_while_a_text_is_added", "mark_comes_first", "thousand_notes", "hostile_carrier", "beginner_dies", "late_edits_once",
+        "going_over_dies", "two_begin_again", "waits_for_what_it_has", "waits_for_the_messages", "parts"}
 
 
 def main(names: "list[str]") -> int:
     failed = 0
-    for part in numbers, copies, plain_files, folders:
+    for part in numbers, copies, plain_files, folders, subfolders, successions:
         for name, call in list(vars(part).items()):
             if not name.startswith("test_") or names and name[5:] not in names and (names != ["--short"] or name[5:] in LONG):
                 continue

@@ -13,10 +13,13 @@ from .errors import RlsError, Stale, Trouble
 from .files import Busy
 from .giver import Giver
 from .handing import give_part, giver_name
-from .home import homes
+from .family import idents, is_active
+from .home import Home, homes
 from .kept_for import rows
 from .newcomer import ask, take_seat
 from .note import Note
+from .parting import part
+from .succession import begin_again, duties, go_on, left_behind, successors
 
 MOST_MEMBERS = 8
 NOT_YET = 75                    # no number has come
@@ -27,17 +30,8 @@ def own_name() -> str:
 
 
 def own_circles() -> List[Circle]:
-    """The circles in which this machine has a part."""
-    found = []
-    for ident in sorted(os.listdir(homes()) if os.path.isdir(homes()) else []):
-        try:
-            with open(os.path.join(homes(), ident, "seat"), encoding="utf-8") as f:
-                shared = json.load(f)["shared"]
-        except (FileNotFoundError, NotADirectoryError):
-            continue
-        if "." not in ident:                            # what was set aside has a point in its name
-            found.append(Circle(shared, ident))
-    return found
+    """The circles in which this machine has a part, and its files."""
+    return [Circle(Home(ident).kept("seat")["shared"], ident) for ident in idents() if is_active(ident)]
 
 
 def circle_of(path: Optional[str]) -> Tuple[Circle, Optional[str]]:
@@ -65,6 +59,8 @@ def refuse_within(path: str, shared: str) -> None:
 
 
 def share(words: argparse.Namespace) -> int:
+    if words.again:
+        return again(words)
     shared = os.path.abspath(os.path.expanduser(words.shared))
     refuse_within(homes(), shared)
     for path in words.files:
@@ -78,16 +74,28 @@ def share(words: argparse.Namespace) -> int:
         circle = Circle.of(shared)
         print(f"member {circle.me} of {shared}")
     else:
-        circle = Circle.begin(shared, words.name or own_name(), words.members)
-        print(f"begun in {shared}: you are number 0 of at most {words.members}. The others: rls join {words.shared}")
+        circle = Circle.begin(shared, words.name or own_name(), words.members or MOST_MEMBERS)
+        print(f"begun in {shared}: you are number 0 of at most {circle.members}. The others: rls join {words.shared}")
     with circle.hold(words.wait):
         circle.look()
         desk = Desk(circle)
         for path in filter(os.path.isdir, words.files):
-            desk.folder, desk.adds = os.path.abspath(path), True
+            desk.folder, desk.adds, desk.is_deep = os.path.abspath(path), True, True
             desk.keep()
         desk.add_all([x for x in words.files if not os.path.isdir(x) and os.path.abspath(x) not in desk.files.values()])
         return desk.once(wait=words.wait)
+
+
+def again(words: argparse.Namespace) -> int:
+    """A new circle in the same folder."""
+    if words.files:
+        raise Trouble("--again begins a new circle with the texts that there are; add others after that.", 1)
+    circle = Circle.of(words.shared)
+    with circle.hold(words.wait):
+        circle.look()
+        members = begin_again(circle, words.name or (circle.seat.name if circle.seat else own_name()), words.members)
+    print(f"a new circle is begun in {circle.shared}, of at most {members} numbers. Each of the others goes over at its `rls sync`, once this machine has seen it.")
+    return one_round(circle, None, words)[1]
 
 
 def join(words: argparse.Namespace) -> int:
@@ -97,13 +105,17 @@ def join(words: argparse.Namespace) -> int:
         refuse_within(words.folder, circle.shared)
     circle.home.make()
     if words.anew and circle.seat:
-        begin_anew(circle, circle.seat)
+        circle = begin_anew(circle, circle.seat)
     end = time.monotonic() + words.wait
     while True:
         with circle.hold(words.wait):
             ask(circle, words.name or own_name())
             if take_seat(circle):
                 return joined(circle, words)
+            new = go_on(circle, words.wait, say)
+        if new:
+            circle = new                                # a new circle was begun meanwhile
+            continue
         if time.monotonic() >= end:
             say(f"asked for a number in {circle.shared}. {giver_name(circle)[1]}'s machine gives it at its next `rls sync` (or while an editor has the text open there); then `rls join` again.")
             return NOT_YET
@@ -115,19 +127,22 @@ def joined(circle: Circle, words: argparse.Namespace) -> int:
     desk = Desk(circle)
     if words.folder and not desk.folder:
         os.makedirs(words.folder, exist_ok=True)
-        desk.folder, desk.adds = os.path.abspath(words.folder), words.adds
+        desk.folder, desk.adds, desk.is_deep = os.path.abspath(words.folder), words.adds, True
         desk.keep()
     status = desk.once(wait=words.wait)
     print(f"you are number {circle.me} of at most {circle.members} in {circle.shared}" + (f"; the texts are in {desk.folder}" if desk.folder else ""))
     return status
 
 
-def begin_anew(circle: Circle, seat: Seat) -> None:
+def begin_anew(circle: Circle, seat: Seat) -> Circle:
     """Asks for a new number for this machine. What its files have, and nobody is known to have got, is put in again once that is there."""
     if seat.number is not None and Giver(circle).is_giver:
         raise Trouble("this machine gives the numbers, and that part can't begin anew. Begin a new circle with the files: rls share NEWFOLDER FILE ..")
+    following = successors(circle)
     with circle.hold(10):
         aside = circle.home.set_aside(seat.number)
+    if following:
+        return begin_in(following[0], aside, seat.name)
     circle.read_again()
     circle.home.make()
     for x in sorted(os.listdir(os.path.join(aside, "texts"))):
@@ -140,6 +155,18 @@ def begin_anew(circle: Circle, seat: Seat) -> None:
         shutil.copy(os.path.join(aside, "bound"), circle.home.path("bound"))
     ask(circle, seat.name)
     say(f"what was here is in {aside} now.")
+    return circle
+
+
+def begin_in(circle: Circle, aside: str, name: str) -> Circle:
+    """Begins in the circle that follows, without waiting until what this machine has has come over: its files stay as they are, and the texts
+    of the new circle get files beside them."""
+    circle.home.make()
+    if os.path.exists(circle.home.path("waits")):
+        os.unlink(circle.home.path("waits"))
+    ask(circle, name)
+    say(f"what was here is in {aside} now. The files stay as they are; the texts of the new circle are beside them.")
+    return circle
 
 
 def sync(words: argparse.Namespace) -> int:
@@ -147,7 +174,9 @@ def sync(words: argparse.Namespace) -> int:
     told = ""
     while True:
         try:
-            status = one_round(circle, only, words)
+            if circle.home.kept("over"):
+                circle, only = circle_of(words.path)
+            circle, status = one_round(circle, only, words)
             told = ""
         except (Trouble, RlsError, Stale, OSError) as e:
             if not words.watch:
@@ -160,14 +189,31 @@ def sync(words: argparse.Namespace) -> int:
         time.sleep(words.every)
 
 
-def one_round(circle: Circle, only: Optional[str], words: argparse.Namespace) -> int:
-    with circle.hold(words.wait):
-        if words.moved:
-            circle.home.tell_place()
-            words.moved = False
-        if not take_seat(circle):
+def one_round(circle: Circle, only: Optional[str], words: argparse.Namespace) -> Tuple[Circle, int]:
+    """A round; if this machine goes over to a new circle, that in which it is then, and one there. The circle, and the status."""
+    while True:
+        with circle.hold(words.wait):
+            if words.moved:
+                tell_places(circle)
+                words.moved = False
+            has_number = take_seat(circle)
+            status = Desk(circle).once(only, words.wait, words.mine, words.tend) if has_number else NOT_YET
+            new = go_on(circle, words.wait, say)
+            if not new:
+                duties(circle, words.wait, say)
+        if new:
+            circle = new
+        elif has_number:
+            return circle, status
+        else:
             raise Trouble(f"no number has come yet: {circle.shared}. `rls join {circle.shared}` waits for it.", NOT_YET)
-        return Desk(circle).once(only, words.wait, words.mine, words.tend)
+
+
+def tell_places(circle: Circle) -> None:
+    """All that this machine keeps for the shared folder was moved."""
+    for ident in {circle.id, *circle.family()}:
+        if os.path.isdir(Home(ident).folder):
+            Home(ident).tell_place()
 
 
 def who(words: argparse.Namespace) -> int:
@@ -175,6 +221,9 @@ def who(words: argparse.Namespace) -> int:
     print("\n".join(rows(circle)))
     k, name = giver_name(circle)
     print(f"{len(circle.names())} of {circle.members} numbers are given; number {k}, {name}, gives them")
+    behind = left_behind(circle)
+    if behind:
+        print(f"not known to have come over from an older circle: {', '.join(behind)}")
     return 0
 
 
@@ -184,6 +233,14 @@ def give(words: argparse.Namespace) -> int:
         circle.look()
         give_part(circle, words.number)
     print(f"number {words.number} gives the numbers of {circle.shared} once its machine has synced; this machine never does again")
+    return 0
+
+
+def leave(words: argparse.Namespace) -> int:
+    circle, _ = circle_of(words.path)
+    with circle.hold(words.wait, bare=True):
+        part(circle, words.wait, say)
+    print(f"this machine has no part in {circle.shared} any more")
     return 0
 
 
@@ -219,7 +276,7 @@ def drop(words: argparse.Namespace) -> int:
         circle.look()
         desk = Desk(circle)
         group = next(x for x, path in desk.files.items() if path == only)
-        circle.say_text(int(group), os.path.basename(only), gone=True)
+        circle.say_text(int(group), desk.name(only), gone=True)
         desk.part_with(group)
     return 0
 
@@ -227,7 +284,7 @@ def drop(words: argparse.Namespace) -> int:
 def parser() -> argparse.ArgumentParser:
     whole = argparse.ArgumentParser(prog="rls", add_help=True)
     commands = whole.add_subparsers(dest="command", required=True)
-    for name, call in ("share", share), ("join", join), ("sync", sync), ("who", who), ("where", where), ("drop", drop), ("give", give):
+    for name, call in ("share", share), ("join", join), ("sync", sync), ("who", who), ("where", where), ("drop", drop), ("give", give), ("part", leave):
         one = commands.add_parser(name)
         one.set_defaults(call=call)
         one.add_argument("--wait", type=float, default=60 if name == "join" else 0)
@@ -239,8 +296,10 @@ def parser() -> argparse.ArgumentParser:
         else:
             one.add_argument("path", nargs="?")
         if name == "share":
+            one.set_defaults(moved=False, mine=False, tend=False)
+            one.add_argument("--again", action="store_true")
             one.add_argument("files", nargs="*")
-            one.add_argument("--members", type=int, default=MOST_MEMBERS)
+            one.add_argument("--members", type=int)
         if name == "join":
             one.add_argument("folder", nargs="?")
             one.add_argument("--adds", action="store_true")

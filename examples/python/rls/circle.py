@@ -14,14 +14,16 @@ from typing import Any, Dict, Iterator, List, NamedTuple, Optional, Tuple
 from . import limits
 from .commands import Commands
 from .errors import Trouble
-from .home import Home, homes
+from .files import look
+from .family import Family, after, idents, is_active, tip
+from .home import HELD, Home
 from .mailbox import Mailbox, Replica, shown
-from .notices import Notice, file_name, name_of, number, read_notice, regular_or_none, sync_folder, write_notice
+from .notices import Notice, name_of, number, read_notice, regular_or_none, sync_folder, write_notice
 from .reports import Head
+from .told import Place, Text, Told, first, split, texts_of
 
-FORM = "1"                      # of the files of a circle
+FORM, LATER_FORM = "1", "2"     # of the files of a circle, and of one that was begun after another: versions before 0.12 pass that by
 CIRCLE = re.compile(r"([0-9a-f]{16})\.circle")
-MOST_STAMP = 10 ** 12           # one that is greater was forged, and would leave no room for others
 SEEN_EACH = 3600                # seconds after which a member that has nothing to send says that it was here
 
 
@@ -35,26 +37,6 @@ class Seat(NamedTuple):
     packed: List[int] = []          # the texts whose replicas came with the number
 
 
-class Text(NamedTuple):
-    group: int
-    name: str
-
-
-class Told(NamedTuple):
-    """What was said of a text: its name, by the greatest stamp and then the greatest number; who began it; and whether anybody dropped it."""
-    stamp: int
-    by: int
-    name: str
-    gone: bool = False
-    begun: Optional[int] = None
-
-    def joined(self, other: "Told") -> "Told":
-        last = max(self, other, key=lambda x: (x.stamp, x.by))
-        begun = self.begun if self.begun is not None else other.begun
-        return Told(last.stamp, last.by, last.name, self.gone or other.gone, begun)
-
-
-
 def circles_in(shared: str) -> Dict[str, Notice]:
     """The circles that a folder has, and what each says of itself."""
     try:
@@ -62,7 +44,7 @@ def circles_in(shared: str) -> Dict[str, Notice]:
     except OSError as e:
         raise Trouble(f"{shared}: {e.strerror}", 8) from None
     found = {match[1]: read_notice(os.path.join(shared, match[0])) for match in map(CIRCLE.fullmatch, names) if match}
-    return {ident: notice for ident, notice in found.items() if notice and notice.get("circle") == FORM}
+    return {ident: notice for ident, notice in found.items() if notice and notice.get("circle") in (FORM, LATER_FORM)}
 
 
 class Circle:
@@ -75,9 +57,8 @@ class Circle:
     def read_again(self) -> None:
         kept = self.home.kept("seat")
         self.seat: Optional[Seat] = Seat(**kept) if kept else None
-        self.entries: Optional[Dict[str, os.DirEntry[str]]] = None
-        self.own: Optional[List[str]] = None
         self.told: Optional[Dict[str, Told]] = None
+        self.list_again()
         self.has_marked = False
         self.ends: Dict[int, List[str]] = {}
 
@@ -87,18 +68,18 @@ class Circle:
         full = os.path.abspath(os.path.expanduser(shared))
         found = circles_in(full)
         names = os.listdir(full)
-        held = [x for x in os.listdir(homes()) if os.path.exists(os.path.join(homes(), x, "seat"))] if os.path.isdir(homes()) else []
-        mine = [x for x in held if x in found or any(name.startswith(f"{x}-") for name in names)]
-        if len(mine) == 1 or not mine and len(found) == 1:
-            return cls(full, mine[0] if mine else next(iter(found)))
+        mine = [x for x in idents() if is_active(x) and (x in found or any(name.startswith(f"{x}-") for name in names))]
+        counting = tip({x: after(notice) for x, notice in found.items()})
+        if len(mine) == 1 or not mine and counting:
+            return cls(full, mine[0] if mine else str(counting))
         if not found:
             raise Trouble(f"{full} has no circle, or what says so hasn't come whole yet. `rls share {shared} FILE` begins one.", 2)
         told = ", ".join(f"{x} of {name_of(notice)}" for x, notice in sorted(found.items()))
         raise Trouble(f"{full} has {len(found)} circles: {told}. Two began here before either saw the other's. Agree on one; who began the other takes its files (those whose names begin with its number) out of the folder.")
 
     @classmethod
-    def begin(cls, shared: str, name: str, members: int) -> "Circle":
-        """Begins one. Whoever does is member 0, and gives the numbers."""
+    def begin(cls, shared: str, name: str, members: int, before: Optional[str] = None) -> "Circle":
+        """Begins one, if `before` is given after that one. Whoever does is member 0, and gives the numbers."""
         if not 2 <= members <= 64:
             raise Trouble(f"a circle has 2 to 64 numbers, and not {members}.", 1)
         full = os.path.abspath(os.path.expanduser(shared))
@@ -106,6 +87,9 @@ class Circle:
         circle = cls(full, secrets.token_hex(8))
         circle.home.make()
         circle.home.tell_place()
+        if before:
+            circle.home.keep("after", before)
+            circle.home.keep("waits", before)
         circle.keep_seat(Seat(secrets.token_hex(8), shown(name) or "?", full, members, 0))
         circle.repair()
         return circle
@@ -113,19 +97,26 @@ class Circle:
     def repair(self) -> None:
         """The file that says that there is a circle is written anew if it is away."""
         if self.seat and self.seat.number == 0:
-            write_notice(self.path(f"{self.id}.circle"), circle=FORM, members=self.seat.members, name=self.seat.name)
+            before = self.home.kept("after")
+            words = {"circle": LATER_FORM, "after": before} if before else {"circle": FORM}
+            write_notice(self.path(f"{self.id}.circle"), **words, members=self.seat.members, name=self.seat.name)
 
     def keep_seat(self, seat: Seat) -> None:
         self.home.keep("seat", seat._asdict())
         self.seat = seat
 
     @contextmanager
-    def hold(self, wait: float = 0) -> Iterator[None]:
-        """One command at a time works on it on this machine. What it knows is read anew then."""
+    def hold(self, wait: float = 0, bare: bool = False) -> Iterator[None]:
+        """One command at a time works on it on this machine. What it knows is read anew then. With `bare` this machine's files may be in another
+        circle of the folder."""
         if not os.path.isdir(self.home.folder):
             raise Trouble(f"this machine has no part in the circle of {self.shared}: rls join {self.shared}", 2)
         with self.home.hold(wait):
             self.read_again()
+            if not bare and self.home.kept("over"):
+                raise Trouble(f"the texts of {self.shared} went over to a new circle just now: once more, please.", HELD)
+            if not bare and self.home.kept("parts"):
+                raise Trouble(f"this machine is leaving {self.shared}: `rls part {self.shared}` goes on with that.")
             yield
 
     # -- the shared folder
@@ -146,12 +137,26 @@ class Circle:
                 raise Trouble(f"{self.shared}: {e.strerror}", 8) from None
         return self.entries
 
+    def list_again(self) -> None:
+        """The next question after names looks at the shared folder."""
+        self.entries: Optional[Dict[str, os.DirEntry[str]]] = None
+        self.own: Optional[List[str]] = None
+
     def own_names(self, pattern: str) -> List["re.Match[str]"]:
         """The names in the shared folder that are `CIRCLE-` and then match."""
         if self.own is None:
             self.own = sorted(x for x in self.listing() if x.startswith(self.id))
         whole = re.compile(f"{self.id}-{pattern}")
         return [x for x in map(whole.fullmatch, self.own) if x]
+
+    def family(self) -> Family:
+        """The circles that were ever seen in the shared folder: what says that there is one may be away at any moment."""
+        known: Family = self.home.kept("family") or {}
+        new = {x[1]: read_notice(self.path(x[0])) for x in map(CIRCLE.fullmatch, self.listing()) if x and x[1] not in known}
+        found = {**known, **{x: after(notice) for x, notice in new.items() if notice and notice.get("circle") in (FORM, LATER_FORM)}}
+        if found != known and os.path.isdir(self.home.folder):
+            self.home.keep("family", found)
+        return found
 
     # -- who is who
     @property
@@ -192,9 +197,17 @@ class Circle:
         """Comes before the first message of a round: a new mark, which only this replica of the number knows to be its own."""
         if not self.has_marked:
             assert self.seat
-            mark = self.home.new_mark()
-            write_notice(self.path(f"{self.id}-{self.me}.here"), name=self.seat.name, seen=int(time.time()), token=self.seat.token, mark=mark)
+            mark, over = self.home.new_mark(), self.home.kept("over")
+            words = {"over": over} if over else {}
+            write_notice(self.path(f"{self.id}-{self.me}.here"), name=self.seat.name, seen=int(time.time()), token=self.seat.token, mark=mark, **words)
             self.has_marked = True
+
+    def mark_gone(self) -> None:
+        """Says in a circle from which this machine's files went over to another that they did."""
+        there, over = self.notice(f"{self.me}.here"), self.home.kept("over")
+        if not there or there.get("over") != over:
+            assert self.seat
+            write_notice(self.path(f"{self.id}-{self.me}.here"), name=self.seat.name, seen=int(time.time()), token=self.seat.token, mark=self.home.new_mark(), over=over)
 
     def mark_if_due(self) -> None:
         """A member that has nothing to send says now and then that it was here."""
@@ -208,14 +221,14 @@ class Circle:
         file is read again only when it has changed."""
         if self.told is not None:
             return self.told
-        kept: Dict[str, Any] = self.home.kept("texts-told") or {"texts": {}, "files": {}}
-        self.told = {group: Told(*row) for group, row in kept["texts"].items()}
+        kept = self._kept_told()
+        self.told = {group: Told.kept(row) for group, row in kept["texts"].items()}
         files: Dict[str, List[int]] = {}
         for match in self.own_names(r"(0|[1-9][0-9]{0,18})-([0-9]{1,2})\.text"):
             sign = look_of(self.listing()[match[0]])
             notice = None if kept["files"].get(match[0]) == sign else read_notice(self.path(match[0]))
-            if notice and "name" in notice:
-                said = Told(number(notice.get("stamp")) % MOST_STAMP, int(match[2]), file_name(notice["name"]), "gone" in notice, int(match[2]) if "begun" in notice else None)
+            said = Told.said(notice, int(match[2])) if notice else None
+            if said:
                 old = self.told.get(match[1])
                 self.told[match[1]] = old.joined(said) if old else said
             if notice or kept["files"].get(match[0]) == sign:
@@ -224,35 +237,31 @@ class Circle:
             self._keep_told(files)
         return self.told
 
+    def _kept_told(self) -> Dict[str, Any]:
+        """What was kept of the texts; versions before 0.12 kept less, under another name."""
+        found: Dict[str, Any] = self.home.kept("texts-said") or {**(self.home.kept("texts-told") or {"texts": {}}), "files": {}}
+        return found
+
     def _keep_told(self, files: Dict[str, List[int]]) -> None:
-        self.home.keep("texts-told", {"texts": self.texts_told(), "files": files})
+        self.home.keep("texts-said", {"texts": self.texts_told(), "files": files})
 
     def gone(self) -> List[str]:
         return [group for group, told in self.texts_told().items() if told.gone]
 
     def texts(self) -> List[Text]:
-        """The texts of the circle, each under the name that was said last; of those with one name all but the first have some digits of their
-        number in it, the same for all."""
-        taken = set()
-        texts = []
-        for group, told in sorted((int(x), y) for x, y in self.texts_told().items() if y.begun is not None and not y.gone):
-            name, digits = told.name, 4
-            while name in taken:
-                stem, end = os.path.splitext(told.name)
-                name, digits = f"{stem}-{str(group).zfill(4)[-digits:]}{end}", digits + 4
-            taken.add(name)
-            texts.append(Text(group, name))
-        return texts
+        """The texts of the circle, each under the name that was said last."""
+        return texts_of(self.texts_told())
 
-    def say_text(self, group: int, name: str, begun: bool = False, gone: bool = False) -> None:
-        """Says what this member calls a text, from now on for all; or that it is dropped."""
+    def say_text(self, group: int, path: str, begun: bool = False, gone: bool = False, root: Optional[int] = None) -> None:
+        """Says what this member calls a text, with the folders that it is in, from now on for all; or that it is dropped."""
         told = self.texts_told()
         old = told.get(str(group), Told(0, 0, ""))
-        said = Told(old.stamp + 1, self.me, file_name(name), gone, self.me if begun or old.begun == self.me else None)
-        words = {word: 1 for word, on in (("begun", said.begun is not None), ("gone", gone or old.gone)) if on}
-        write_notice(self.path(f"{self.id}-{group}-{self.me}.text"), stamp=said.stamp, name=said.name, **words)
+        folders, name = split(path)
+        stamp = old.stamp + 1
+        said = Told(stamp, self.me, name, gone or old.gone, self.me if begun or old.begun == self.me else None, Place(stamp, self.me, folders), first(old.root, root))
+        write_notice(self.path(f"{self.id}-{group}-{self.me}.text"), **said.words())
         told[str(group)] = old.joined(said)
-        self._keep_told((self.home.kept("texts-told") or {"files": {}})["files"])
+        self._keep_told(self._kept_told()["files"])
 
     # -- replicas
     def replica(self, group: int) -> str:
@@ -345,10 +354,15 @@ def has_replica(folder: str) -> bool:
         return False
 
 
+def look_of_replica(folder: str) -> List[List[int]]:
+    """What changes when a replica is stored."""
+    return [look(os.path.join(folder, x)) for x in ("replica.gate", "replica.0", "replica.1")]
+
+
 def begin(folder: str, group: int, me: int, members: int) -> None:
     """A replica in a folder that has none."""
     if not has_replica(folder):
         Commands.new(folder, group, me, members)
 
 
-__all__ = ["Circle", "Quiet", "Seat", "Text", "begin", "circles_in", "counts_of", "has_replica"]
+__all__ = ["Circle", "Quiet", "Seat", "Text", "begin", "circles_in", "counts_of", "has_replica", "look_of", "look_of_replica"]

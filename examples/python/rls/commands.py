@@ -143,6 +143,10 @@ class Commands(Editing):
         numbers = out.decode().split()[1::2]
         return Report(*map(int, numbers), refusals=tuple(x for x in line.splitlines() if x.startswith("refused ")))
 
+    def leave(self) -> None:
+        """Ends this member's part for ever: it can't edit any more, and nobody keeps anything for it."""
+        self._run("leave")
+
     def save(self) -> None:
         """Nothing to do: each command has stored the file."""
 

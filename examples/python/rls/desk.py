@@ -2,18 +2,21 @@
 import os
 import sys
 import time
+from contextlib import ExitStack
 from typing import Any, Dict, List, Optional, Set
 
-from .circle import Circle, Text, begin
+from .carrying import Source, sources
+from .circle import Circle, Text, begin, look_of_replica
 from .errors import RlsError, Stale, Trouble
-from .files import Busy, look, move, read_whole, understood
+from .family import idents
+from .files import Busy, look, read_whole, understood
 from .giver import Giver
 from .handing import hand_part, take_part
-from .home import HELD, holder
+from .home import HELD, Home, holder, homes
 from .kept_for import tell_kept
-from .note import Note, look_of_replica
+from .note import Note, signature
+from .places import free_path, is_plain, make_room, move_within, notes_in, within
 
-KINDS = ".md", ".txt", ".text", ".markdown", ".rst", ".org", ".tex"
 UNREAD = 8                      # the status if a file can't be read or written
 MOST_NAMES = 5                  # of files that are shared at once, in one line
 RENAMED = 0.7                   # the part of the words that a file under another name has to have of the one that is missing
@@ -24,24 +27,29 @@ def say(line: str) -> None:
 
 
 class Desk:
-    """What is bound: each text's file, and a folder whose files are texts; with `adds` new files in it become texts, too."""
+    """What is bound: each text's file, and a folder whose files are texts; with `adds` new files in it become texts, too, and if it `is_deep`
+    those of the folders in it. A desk that is `bare` has no files: this machine's are in another circle."""
 
-    def __init__(self, circle: Circle) -> None:
-        self.circle, self.home = circle, circle.home
-        kept: Dict[str, Any] = self.home.kept("bound") or {}
+    def __init__(self, circle: Circle, bare: bool = False) -> None:
+        self.circle, self.home, self.bare = circle, circle.home, bare
+        kept: Dict[str, Any] = {} if bare else self.home.kept("bound") or {}
         self.files: Dict[str, str] = kept.get("files", {})
         self.folder: Optional[str] = kept.get("folder")
-        self.adds = bool(kept.get("adds"))
+        self.adds, self.is_deep = bool(kept.get("adds")), bool(kept.get("deep"))
         self.moving: List[str] = kept.get("moving", [])         # from where to where a file is moved just now
         self.left: List[str] = kept.get("left", [])             # files whose texts were dropped: they aren't added anew by themselves
         self.idle: Dict[str, Any] = self.home.kept("idle") or {}
 
     def keep(self) -> None:
-        self.home.keep("bound", {"files": self.files, "folder": self.folder, "adds": self.adds, "moving": self.moving, "left": self.left})
+        self.home.keep("bound", {"files": self.files, "folder": self.folder, "adds": self.adds, "deep": self.is_deep, "moving": self.moving, "left": self.left})
 
     def bind(self, group: int, path: str) -> None:
         self.files[str(group)] = os.path.abspath(path)
         self.keep()
+
+    def name(self, path: str) -> str:
+        """What a file is called for all: its path in the folder of the texts, or its name if it is elsewhere."""
+        return within(self.folder, path) or os.path.basename(path)
 
     # -- which files there are
     def settle(self) -> None:
@@ -59,7 +67,7 @@ class Desk:
             self._name_as_told(text)
         for text in texts:
             if str(text.group) not in self.files:
-                self.bind(text.group, free_name(os.path.join(self.folder, text.name)))
+                self.bind(text.group, free_path(self.folder, text.name, set(self.files.values())))
         if self.adds:
             self.add_all(self._new_files())
 
@@ -68,7 +76,7 @@ class Desk:
         if self.moving:
             group, old, new = self.moving
             if not os.path.lexists(new) and os.path.lexists(old):
-                move(old, new)
+                move_within(str(self.folder), old, new)
             elif os.path.lexists(old) and os.path.samefile(old, new):
                 os.unlink(old)
             self.moving = []
@@ -83,7 +91,7 @@ class Desk:
 
     def _begin_text(self, group: int, path: str) -> None:
         begin(self.circle.replica(group), group, self.circle.me, self.circle.members)
-        self.circle.say_text(group, os.path.basename(path), begun=True)
+        self.circle.say_text(group, self.name(path), begun=True)
 
     def _part_with_gone(self) -> None:
         gone = [x for x in self.circle.gone() if x in self.files]
@@ -99,36 +107,45 @@ class Desk:
     def _new_files(self) -> List[str]:
         assert self.folder
         bound = {*self.files.values(), *self.left}
-        with os.scandir(self.folder) as found:
-            there = sorted(x.path for x in found if x.name.endswith(KINDS) and not x.name.startswith(".") and x.is_file())
-        return [x for x in there if x not in bound]
+        return [x for x in notes_in(self.folder, self.is_deep, self._left_out()) if x not in bound]
+
+    def _left_out(self) -> Set[str]:
+        """Folders in which no file is anybody's note, or is one of another circle."""
+        found = {os.path.realpath(x) for x in (self.circle.shared, homes())}
+        for ident in idents():
+            seat, bound = Home(ident).kept("seat") or {}, Home(ident).kept("bound") or {}
+            found |= {os.path.realpath(x) for x in (seat.get("shared"), bound.get("folder")) if x and x != self.folder}
+        return found
 
     def _follow_renames(self) -> None:
-        """A file that is missing, and a new one with most of its words, are one: somebody has given it another name."""
+        """A file that is missing, and a new one with most of its words, are one: somebody has given it another name, or put it into another
+        folder. One whose own name is the same comes first."""
         new = self._new_files()
         lost = {group: Note(self.circle, Text(int(group), ""), None, say).last() for group, x in self.files.items() if not os.path.exists(x)} if new else {}
-        for path in new:
-            group = next((x for x, text in lost.items() if is_like(path, text)), None)
+        for path in new if lost else []:
+            words, last = words_of(path), os.path.basename(path)
+            likely = sorted(lost, key=lambda x: os.path.basename(self.files[x]) != last)
+            group = next((x for x in likely if are_alike(words, lost[x])), None)
             if group is not None:
                 del lost[group]
-                say(f"{os.path.basename(self.files[group])} is {os.path.basename(path)} now.")
+                say(f"{self.name(self.files[group])} is {self.name(path)} now.")
                 self.bind(int(group), path)
-                self.circle.say_text(int(group), os.path.basename(path))
+                self.circle.say_text(int(group), self.name(path))
 
     def _name_as_told(self, text: Text) -> None:
-        """Somebody has given a text another name: its file gets it, if it is in the folder of the texts and no other file has it."""
+        """Somebody has given a text another name: its file gets it, if it is in the folder of the texts and nothing else has it."""
         old = self.files.get(str(text.group))
-        if old is None or os.path.basename(old) == text.name or os.path.dirname(old) != self.folder:
+        if not self.folder or old is None or within(self.folder, old) in ("", text.name):
             return
         new = os.path.join(self.folder, text.name)
-        if os.path.lexists(new):
+        if os.path.lexists(new) or new in self.files.values() or not (is_plain(self.folder, new) and is_plain(self.folder, old)):
             return
         if os.path.exists(old):
             self.moving = [str(text.group), old, new]
             self.keep()                                 # so that a stop in the middle makes no new file of it
-            move(old, new)
+            move_within(self.folder, old, new)
             self.moving = []
-        say(f"{os.path.basename(old)} is {text.name} now.")
+        say(f"{self.name(old)} is {text.name} now.")
         self.bind(text.group, new)
 
     def add(self, path: str) -> None:
@@ -142,7 +159,7 @@ class Desk:
         """Makes texts of files, and says so."""
         for path in paths:
             self.add(path)
-        names = [os.path.basename(x) for x in paths]
+        names = [self.name(os.path.abspath(x)) for x in paths]
         if names:
             say(f"{', '.join(names[:MOST_NAMES])}{f' and {len(names) - MOST_NAMES} others' * (len(names) > MOST_NAMES)} {'is' if len(names) == 1 else 'are'} shared now.")
 
@@ -150,9 +167,13 @@ class Desk:
     def once(self, only: Optional[str] = None, wait: float = 0, mine: bool = False, tend: bool = False) -> int:
         """Files and messages, then what the giver does. With `tend` no text is looked at: an editor that exchanges by itself runs that now and
         then. The status."""
-        self.circle.look()
-        status = 0
-        if not tend:
+        with ExitStack() as stack:
+            self.circle.look()
+            return self._once(sources(self.circle, stack, say), only, wait, mine, tend)
+
+    def _once(self, late: Dict[int, List[Source]], only: Optional[str], wait: float, mine: bool, tend: bool) -> int:
+        status, self.late = 0, late
+        if not tend and not self.bare:
             self.settle()
         lost = self.circle.begin_texts()
         for text in lost:
@@ -172,7 +193,7 @@ class Desk:
         for text in self.circle.texts():
             path = self.files.get(str(text.group))
             if text.group not in left_out and only in (None, path) and (mine and only or not self.is_idle(text, path)):
-                status = max(status, self._round(Note(self.circle, text, path, say), time.monotonic() + wait, mine))
+                status = max(status, self._round(Note(self.circle, text, path, say, self.late.get(text.group, ())), time.monotonic() + wait, mine))
         if self.idle != kept:
             self.home.keep("idle", self.idle)
         return status
@@ -182,13 +203,17 @@ class Desk:
         seen = self.idle.get(str(text.group))
         if not seen or path and not seen[2] or seen[2] != (look(path) if path else []):
             return False
-        return bool(seen[0] == self.circle.signature(text.group, self.circle.me) and seen[1] == look_of_replica(self.circle.replica(text.group)))
+        return bool(seen[0] == signature(self.circle, text, self.late.get(text.group, ())) and seen[1] == look_of_replica(self.circle.replica(text.group)))
 
     def _round(self, note: Note, end: float, mine: bool) -> int:
         """One round of one text. The status."""
         name = note.text.name
+        if note.path and self.folder and not is_plain(self.folder, note.path):
+            say(f"{name}: a folder of {note.path} is a link, or a file, and isn't followed: nothing was taken or sent.")
+            return UNREAD
         while True:
             try:
+                make_room(self.folder, note.path or "")
                 self.idle[str(note.text.group)] = note.round(mine)
                 tell_kept(self.circle, note.text, say)
                 return 0
@@ -226,23 +251,16 @@ def new_group() -> int:
     return int.from_bytes(os.urandom(8), "big") >> 1
 
 
-def is_like(path: str, text: str) -> bool:
-    """Whether a file has most of a text's words, and not many others."""
+def words_of(path: str) -> Set[str]:
+    """The words of a file; none if it can't be read."""
     try:
         found = read_whole(path)
-        words = set(understood(found.data if found else b"").text.split())
+        return set(understood(found.data if found else b"").text.split())
     except (Busy, OSError, UnicodeDecodeError):
-        return False
+        return set()
+
+
+def are_alike(words: Set[str], text: str) -> bool:
+    """Whether these are most of a text's words, and not many others."""
     old = set(text.split())
     return len(words) > 0 and len(words & old) >= RENAMED * max(len(words), len(old))
-
-
-def free_name(path: str) -> str:
-    """This name, or the next one that no file has: a file of this machine isn't given away because somebody has named a text so."""
-    stem, end = os.path.splitext(path)
-    k, name = 2, path
-    while os.path.lexists(name):
-        name, k = f"{stem}-{k}{end}", k + 1
-    return name
-
-

@@ -7,7 +7,7 @@ import os
 import secrets
 import time
 from contextlib import contextmanager
-from typing import Any, Iterator, List, Optional
+from typing import Any, Iterator, List, Optional, Set
 
 from .errors import Trouble
 from .folders import replace
@@ -15,6 +15,7 @@ from .notices import number, regular_or_none, sync_folder
 
 HELD = 73                       # the status if another program holds what was asked for
 MOST_MARKS = 100_000
+HOLDING: Set[str] = set()       # the folders whose lock this program has
 
 
 def homes() -> str:
@@ -56,12 +57,17 @@ class Home:
     # -- one round at a time
     @contextmanager
     def hold(self, wait: float) -> Iterator[None]:
-        """Nobody else on this machine works in this folder meanwhile: two would write the same files."""
+        """Nobody else on this machine works in this folder meanwhile: two would write the same files. Who holds it already goes on."""
+        if self.folder in HOLDING:
+            yield
+            return
         fd = self._locked(time.monotonic() + max(wait, 10))
+        HOLDING.add(self.folder)
         try:
             self._sweep()
             yield
         finally:
+            HOLDING.remove(self.folder)
             os.close(fd)
 
     def _locked(self, end: float) -> int:

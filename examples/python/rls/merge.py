@@ -67,16 +67,16 @@ class Kept:
         return found
 
 
-def carried(base: str, mine: str, theirs: str) -> List[Change]:
+def carried(base: str, mine: str, theirs: str, is_apart: bool = False) -> List[Change]:
     """The changes that made `mine` of `base`, over `theirs`, which was made of the same base: only what stands there yet is deleted, and what
-    both did alike is done once. They are in the order in which they can be performed, the last place first; what comes stands behind what
+    both did alike is done once, unless it `is_apart`, by two who each meant their own. They are in the order in which they can be performed, the last place first; what comes stands behind what
     goes."""
     other = spans(base, theirs)
     kept = Kept(equal_blocks(other, base))
     done = {(i0, i1, theirs[j0:j1]) for i0, i1, j0, j1 in other}
     found: List[Change] = []
     for i0, i1, j0, j1 in reversed(spans(base, mine)):
-        if (i0, i1, mine[j0:j1]) in done:
+        if not is_apart and (i0, i1, mine[j0:j1]) in done:
             continue
         if j1 > j0:
             found.append(Change(kept.place(i1), 0, mine[j0:j1]))

@@ -1,6 +1,7 @@
 """How a machine gets its number."""
 import hashlib
 import os
+import re
 import secrets
 
 from .circle import Circle, Seat
@@ -48,11 +49,11 @@ def take_seat(circle: Circle) -> bool:
 def look_at_number(circle: Circle, k: int) -> None:
     """Trouble 71 if number K, which this machine is about to begin with, was begun with already: its files were put back from before that."""
     names = circle.own_names(rf"{k}\.here")
-    sent = [x for x in circle.listing() if x.endswith(".rlsm") and x.split("-")[1:2] == [str(k)]]
-    for x in sent:
-        counts = circle.counts_of(int(x.split("-")[0]), k, int(x.split("-")[2][:-5])) if all(y.isdecimal() for y in x[:-5].split("-")) else None
-        if counts and counts[k] > 0:
-            names.append(x)
+    told = circle.texts_told()                          # the folder may have texts of other circles, in which this number is somebody else's
+    for match in map(re.compile(rf"([0-9]+)-{k}-([0-9]+)\.rlsm").fullmatch, circle.listing()):
+        counts = circle.counts_of(int(match[1]), k, int(match[2])) if match and match[1] in told else None
+        if match and counts and counts[k] > 0:
+            names.append(match)
     if names:
         raise Trouble(f"number {k} was given to this machine, and it has begun with it before: the files in {circle.home.folder} were put back from a copy. `rls join --anew {circle.shared}` gets a new number.")
 

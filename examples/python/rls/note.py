@@ -5,9 +5,10 @@ import json
 import os
 from typing import Any, Callable, Dict, List, Optional, Sequence, Tuple
 
-from .circle import Circle, Quiet, Text
+from .carrying import Source
+from .circle import Circle, Quiet, Text, look_of_replica
 from .errors import RlsError, Trouble
-from .files import Content, Found, Look, left_over, look, put, read_whole, understood
+from .files import Content, Found, Look, left_over, put, read_whole, understood
 from .folders import replace
 from .mailbox import Mailbox
 from .merge import carried, distance, lines_of, spans
@@ -35,8 +36,9 @@ class Watched(Session):
         super()._release()
 
 
-def look_of_replica(folder: str) -> List[Look]:
-    return [look(os.path.join(folder, x)) for x in ("replica.gate", "replica.0", "replica.1")]
+def signature(circle: Circle, text: Text, sources: Sequence[Source]) -> str:
+    """Changes when a message for or from this member does, here or in a circle from which this machine brings something over."""
+    return "".join([circle.signature(text.group, circle.me), *(x.signature() for x in sources)])
 
 
 class Note:
@@ -44,13 +46,15 @@ class Note:
     `versions`, the states from which a save may have been made, the last one last: what was saved last, and what was written over that since;
     `asked`, sums of saves about which somebody was asked, and the looks of these files;
     `pending`, what is going in just now; `taken`, sums of the messages that were taken;
-    `sent`, texts that were sent, with the count of own operations in them, and `known`, the last one whose own operations another member has."""
+    `sent`, texts that were sent, with the count of own operations in them, and `known`, the last one whose own operations another member has;
+    `over`, what was brought over from circles before this one (carrying.py)."""
 
-    def __init__(self, circle: Circle, text: Text, path: Optional[str], say: Say) -> None:
-        self.circle, self.text, self.path, self.say = circle, text, path, say
+    def __init__(self, circle: Circle, text: Text, path: Optional[str], say: Say, sources: Sequence[Source] = ()) -> None:
+        self.circle, self.text, self.path, self.say, self.sources = circle, text, path, say, sources
+        self.is_all_over, self.trouble = True, ""       # whether all was brought over, and what is in the way
         self.folder = circle.replica(text.group)
         self.kept = circle.home.path("texts", f"{text.group}.json")
-        self.state: Dict[str, Any] = {"versions": [], "asked": [], "taken": {}, "sent": [], "known": None, "pending": None}
+        self.state: Dict[str, Any] = {"versions": [], "asked": [], "taken": {}, "sent": [], "known": None, "pending": None, "over": {}}
         if os.path.exists(self.kept):
             with open(self.kept, encoding="utf-8") as f:
                 self.state.update(json.load(f))
@@ -63,10 +67,12 @@ class Note:
     def round(self, mine: bool = False) -> Seen:
         """One round. What it has looked at: as long as all of this looks so, there is nothing to do. RlsError 7 if another program holds the
         replica, Busy if one has the file open for writing."""
-        messages = self.circle.signature(self.text.group, self.circle.me)
+        messages = signature(self.circle, self.text, self.sources)
         with Watched(self.folder) as session:
             file_look = self._round(session, mine)
-        return messages, session.replica_look, file_look
+        if self.trouble:
+            raise Trouble(self.trouble)
+        return messages if self.is_all_over else "", session.replica_look, file_look
 
     def _round(self, session: Session, mine: bool) -> Look:
         self._look_at(session.head())
@@ -83,6 +89,8 @@ class Note:
         found = read_whole(self.path) if self.path else None
         if found:
             self._bring_in(session, self._understood(found.data).text, found.look, self._base_of(mine))
+        for source in self.sources:
+            self._bring_over(session, source)
         for sender, report in box.receive(session):
             if isinstance(report, RlsError):
                 self.say(f"{self.text.name}: the message of member {sender} isn't whole yet, or none: {report.line}")
@@ -90,6 +98,8 @@ class Note:
         file_look = self._write(session, box, found, mine) if self.path else []
         self._send(box, session)
         self._store(box)
+        for source in self.sources:
+            source.tell(self.state["over"].get(source.key))
         return file_look
 
     def _look_at(self, head: Head) -> None:
@@ -114,6 +124,29 @@ class Note:
             session.edit(lines)
         if new != self.last():
             self._saved(new, over)
+
+    def _bring_over(self, session: Session, source: Source) -> None:
+        """What came late in a circle before this one goes in, at its place, once: it is written down before, like what goes in from a file."""
+        try:
+            found = source.read(self.state["over"].get(source.key))
+        except (RlsError, Trouble) as e:
+            self.trouble = str(e)                       # what is exchanged in this circle goes on
+            return
+        if found is None:
+            self.is_all_over = False
+            return
+        session.rename_if_due()                     # what the file had is stored now
+        self.state["pending"] = None
+        lines = lines_of(carried(found.before, found.text, session.text(), is_apart=True))
+        count = session.head().counts[self.circle.me] + len(lines)
+        over = {**self.state["over"], source.key: {"text": found.text, "counts": found.counts, "own": count, "taken": found.taken}}
+        if lines:
+            self.state["pending"] = [self.versions, count, over]
+            self._store(None)
+            session.edit(lines)
+            session.save()
+        self.state["over"], self.state["pending"] = over, None
+        self._store(None)
 
     def _base_of(self, mine: bool) -> BaseOf:
         """The state that a save in the file was made from: the last version, or an older one."""
@@ -147,6 +180,7 @@ class Note:
         pending = self.state["pending"]
         if pending and session.head().counts[self.circle.me] >= pending[1]:
             self.state["versions"] = pending[0]
+            self.state["over"] = pending[2] if len(pending) > 2 else self.state["over"]
         self.state["pending"] = None
         self._take_left_over(session, self.versions[:-1] or self.versions)
 
@@ -246,4 +280,4 @@ def older_base(versions: List[str], new: str) -> Optional[str]:
     return old if far < distance(last) and 2 * kept > len(old) and is_apart else None
 
 
-__all__ = ["Note", "Seen", "look_of_replica", "older_base"]
+__all__ = ["Note", "Seen", "older_base", "signature"]

@@ -40,9 +40,9 @@ def write_notice(path: str, **values: object) -> None:
         replace(path, data)
 
 
-def number(word: Optional[str]) -> int:
-    """A number of at most 18 digits; 0 for what is none."""
-    return int(word) if word and word.isascii() and word.isdecimal() and len(word) < 19 else 0
+def number(word: Optional[str], digits: int = 18) -> int:
+    """A number of at most so many digits, which is 19 for that of a text; 0 for what is none."""
+    return int(word) if word and word.isascii() and word.isdecimal() and len(word) <= digits else 0
 
 
 def name_of(notice: Optional[Notice]) -> str:

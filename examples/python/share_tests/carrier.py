@@ -15,6 +15,7 @@ class Carrier:
         self.seen: Dict[Tuple[str, str], Optional[bytes]] = {}
         self.late: List[Tuple[int, Person, str, Optional[bytes]]] = []
         self.old: List[Tuple[str, bytes]] = []
+        self.newest: Dict[str, Tuple[Person, Optional[bytes]]] = {}
         self.now = 0
         self.did: Dict[str, int] = {}
 
@@ -38,6 +39,7 @@ class Carrier:
                 data = there.get(name)
                 if self.seen.get((p.name, name)) != data:
                     self.seen[p.name, name] = data
+                    self.newest[name] = p, data
                     for q in self.people:
                         if q is not p:
                             self.late.append((self.now + (self.r.randint(1, 12) if self.r.random() < bad else 1), q, name, data))
@@ -78,9 +80,15 @@ class Carrier:
             f.write(data)
         self.seen[q.name, name] = data
 
+    def bring_all(self) -> None:
+        """All get each file as it was written last, also those to whom an old one came after that."""
+        self.late += [(self.now, q, name, data) for name, (p, data) in self.newest.items() for q in self.people if q is not p]
+
     def settle(self) -> None:
         """What each has written itself comes to all others at last."""
-        for _ in range(60):
+        for k in range(60):
+            if k % 20 == 0:
+                self.bring_all()
             self.step(0)
             for p in self.people:
                 p.rls("sync", "--wait", "20")

@@ -7,7 +7,7 @@ from typing import Tuple
 
 from rls.giver import Giver
 
-from .people import Moment, Person, all_sync, joins, room, spares, started
+from .people import Moment, Person, all_sync, room, spares, started
 
 
 def only_home(p: Person) -> str:

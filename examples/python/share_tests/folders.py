@@ -8,7 +8,7 @@ from rls import Commands, RlsError
 from rls import __main__ as cli
 
 from . import TOP
-from .people import Moment, Person, all_sync, room, started
+from .people import Moment, Person, all_sync, room, started, stat
 
 
 def test_folder_of_notes() -> None:
@@ -156,11 +156,29 @@ def test_dropped_for_ever() -> None:
     assert [x.name for x in ben.circle().texts()] == ["a.md"] and sorted(os.listdir(ben.folder)) == ["a.md", "b.md"]
 
 
+def test_parts() -> None:
+    """Ben leaves: nothing is kept for his number any more, and his files stay. His machine stops at each step."""
+    ada, ben = started("parts", "begin\n", members="2")
+    ada.write("the second note of all\n", "b.md")
+    assert ada.rls("share", ada.shared, "b.md") == 0
+    all_sync([ben])
+    assert ada.rls("part", ada.shared) == 71 and "gives the numbers" in ada.said, ada.said
+    ben.write("begin of Ben\n")
+    for step, how, died in Moment(ada, ben).at_each_step(13):
+        died(ben.dies(step, how, "part", ben.shared))
+        status = ben.rls("part", ben.shared, "--wait", "20")
+        assert status == 0 or status == 2 and "has no part" in ben.said, (status, ben.said)
+        assert ben.rls("sync") == 2 and ben.read() == "begin of Ben\n" and os.path.exists(os.path.join(ben.folder, "b.md")), ben.said
+        ada.write("begin of Ben and Ada\n")
+        all_sync([ada, ada])
+        assert stat(ada)["accepted"] in ((2, 2), (1, 1)) and stat(ada)["unstable"] == (0,), stat(ada)
+
+
 def test_another_program() -> None:
     """A program that has the name and isn't this one is told, and not its words."""
     path = os.path.join(room("another"), "rls")
     with open(path, "w", encoding="utf-8") as f:
-        f.write("#!/bin/sh\necho rls 1.41.0 of something else; exit 1\n")
+        f.write(f"#!/bin/sh\necho $1 >>{path}.asked; echo rls 1.41.0 of something else; exit 1\n")
     os.chmod(path, 0o755)
     try:
         Commands.new(os.path.join(os.path.dirname(path), "replica"), 7, 0, 2, path)
@@ -171,6 +189,13 @@ def test_another_program() -> None:
         Commands(os.path.join(os.path.dirname(path), "replica")).text()
     except RlsError as e:
         assert "another program" not in e.line, e.line
+    for _ in range(3):
+        try:
+            Commands.new(os.path.join(os.path.dirname(path), "replica"), 7, 0, 2, path)
+        except RlsError:
+            pass
+    with open(path + ".asked", encoding="utf-8") as f:
+        assert f.read().split().count("--version") == 1, "it is asked once"
 
 
 def test_thousand_notes() -> None:

@@ -15,14 +15,18 @@ NAMES = "Ada", "Ben", "Cleo", "Dora", "Emil"
 
 class Game:
     """Ada begins; the others ask when they see the circle, some late. All write words into a.md at random places, by saves, and sync; now and then
-    a sync is stopped, or the giver's part is handed on. At last the carrier brings all that there is. Then all have different numbers and the same text, each word once."""
+    a sync is stopped, the giver's part is handed on, or somebody begins a new circle in the folder, perhaps two at once. At last the carrier brings
+    all that there is. Then all are in one circle, with different numbers and the same text, each word once. No word ever goes from anybody's file."""
 
     def __init__(self, where: str, seed: int) -> None:
         self.r = random.Random(seed)
         self.people = [Person(where, x) for x in NAMES[:self.r.randint(3, 5)]]
+        for p in self.people:
+            p.keeps = "a.md"
         self.carrier = Carrier(self.people, self.r, self.r.choice([0.2, 0.5, 0.7]))
         self.dies = self.r.choice([0, 0, 0.04])
         self.gives = self.r.choice([0, 0.1])
+        self.begins_again = self.r.choice([0, 0.03, 0.1])
         self.joined: Set[str] = {"Ada"}
         self.late = {p.name: self.r.choice([0, 0, 30, 60]) for p in self.people}
         self.written: List[str] = []
@@ -55,6 +59,16 @@ class Game:
         status = p.rls("sync", "--wait", "20")
         assert status == 0, (p.name, status, p.said)
 
+    def begins_anew(self, p: Person) -> None:
+        words = "share", p.shared, "--again", "--members", "6"
+        if self.r.random() < 5 * self.dies and p.dies(self.r.randint(1, 90), self.r.choice(["all", "half", "alone"]), *words):
+            self.count("a new circle whose beginner was stopped")
+            return
+        status = p.rls(*words, "--wait", "20")
+        assert status in (0, 71), (status, p.said)
+        if status == 0:
+            self.count("a new circle")
+
     def step(self, now: int) -> None:
         self.carrier.step()
         p = self.r.choice(self.people)
@@ -63,13 +77,17 @@ class Game:
             assert status in (0, 1, 71), (status, p.said)
             if status == 0:
                 self.count("the giver's part handed on")
+        elif p.name in self.joined and self.did.get("a new circle", 0) < 3 and self.r.random() < self.begins_again:
+            self.begins_anew(p)
         elif p.name in self.joined:
             self.writes(p)
         else:
             self.tries_to_join(p, now)
 
     def end(self) -> None:
-        for _ in range(40):
+        for k in range(40):
+            if k == 10:
+                self.carrier.bring_all()
             self.carrier.step(0)
             for p in self.people:
                 if p.name in self.joined:
@@ -78,6 +96,7 @@ class Game:
                     self.tries_to_join(p, 1000)
         self.carrier.settle()
         assert self.joined == {p.name for p in self.people}, self.joined
+        assert len({p.circle().id for p in self.people}) == 1, {p.name: p.circle().id for p in self.people}
         numbers = [p.circle().me for p in self.people]
         assert len(set(numbers)) == len(numbers), numbers
         texts = {p.name: p.read() for p in self.people}

@@ -9,7 +9,7 @@ import subprocess
 import sys
 import tempfile
 from functools import lru_cache
-from typing import Callable, Iterable, Iterator, Optional, Tuple
+from typing import Callable, Iterable, Iterator, Optional, Set, Tuple
 
 from rls import Commands
 from rls import __main__ as cli
@@ -36,9 +36,18 @@ class Person:
         self.folder = os.path.join(room, name, "notes")
         for x in self.home, self.shared, self.folder:
             os.makedirs(x, exist_ok=True)
-        self.said = ""
+        self.said, self.keeps = "", ""          # the name of a file that never loses a word, if nobody deletes any
 
     def rls(self, *words: str) -> int:
+        before = self.words()
+        status = self.runs(*words)
+        assert not before - self.words(), (self.name, words, "lost", before - self.words(), self.said)
+        return status
+
+    def words(self) -> Set[str]:
+        return set(self.read(self.keeps).split()) if self.keeps and os.path.exists(os.path.join(self.folder, self.keeps)) else set()
+
+    def runs(self, *words: str) -> int:
         os.environ["RLS_HOME"], os.environ["USER"] = self.home, self.name
         os.chdir(self.folder)
         out, err = io.StringIO(), io.StringIO()

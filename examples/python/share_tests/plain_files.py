@@ -147,6 +147,22 @@ def test_other_client() -> None:
     assert ben.rls("sync") == 0 and ben.read() == ada.read()
 
 
+def test_messages_stay() -> None:
+    """A round in which there is something to be looked at, and nothing new to be sent, writes no message that is there."""
+    ada, ben = started("stay")
+    all_sync([ada, ben] * 3)
+
+    def messages() -> "dict[str, int]":
+        return {x: os.stat(os.path.join(ada.shared, x)).st_ino for x in os.listdir(ada.shared) if x.endswith(".rlsm")}
+    before = messages()
+    for p in ada, ben:
+        for x in before:
+            os.utime(os.path.join(ada.shared, x))
+        os.utime(os.path.join(p.folder, "a.md"))
+        all_sync([p, p])
+    assert messages() == before
+
+
 def test_killed() -> None:
     """`rls sync` is killed at any moment. No word is lost, and none comes twice."""
     ada, ben = started("killed")
