@@ -19,7 +19,7 @@ from .kept_for import rows
 from .newcomer import ask, take_seat
 from .note import Note
 from .parting import part
-from .succession import begin_again, duties, go_on, left_behind, successors
+from .succession import begin_again, duties, go_on, not_come_over, successors
 
 MOST_MEMBERS = 8
 NOT_YET = 75                    # no number has come
@@ -221,9 +221,9 @@ def who(words: argparse.Namespace) -> int:
     print("\n".join(rows(circle)))
     k, name = giver_name(circle)
     print(f"{len(circle.names())} of {circle.members} numbers are given; number {k}, {name}, gives them")
-    behind = left_behind(circle)
-    if behind:
-        print(f"not known to have come over from an older circle: {', '.join(behind)}")
+    missing = not_come_over(circle)
+    if missing:
+        print(f"not known to have come over from an older circle: {', '.join(missing)}")
     return 0
 
 

@@ -1,7 +1,6 @@
 """Late edits of an older circle come into a newer one: whoever began the newer one takes what still comes in the older one, and puts the
 difference in as edits of the newer one. One machine does that for each pair of circles, from one replica, so nothing goes in twice
 (docs/SHARING.md, "A new circle in the same folder")."""
-import hashlib
 import json
 from contextlib import ExitStack
 from typing import Any, Callable, Dict, List, NamedTuple, Optional, Sequence, Tuple
@@ -9,6 +8,7 @@ from typing import Any, Callable, Dict, List, NamedTuple, Optional, Sequence, Tu
 from .circle import Circle, Quiet, Text, begin, look_of, look_of_replica
 from .errors import RlsError, Stale, Trouble
 from .family import counts_before, counts_of_word
+from .files import Look
 from .home import Home
 from .notices import number, write_notice
 from .session import Session
@@ -44,26 +44,37 @@ class Read(NamedTuple):
     taken: Dict[str, str]
 
 
+class Watched(Session):
+    """A session that looks at the replica's files before it lets go of their lock: whatever changes them later is somebody else."""
+
+    replica_look: List[Look] = []
+
+    def _release(self) -> None:
+        if self.stored.held is not None:
+            self.replica_look = look_of_replica(self.folder)
+        super()._release()
+
+
 class Source:
     """A text of an older circle that this machine brings over. `base` is what of it is in the newer one without its help."""
 
     def __init__(self, old: Circle, text: Text, new: Circle, base: str = "") -> None:
         self.old, self.text, self.new, self.base = old, text, new, base
         self.key, self.folder = f"{old.id}-{text.group}", old.replica(text.group)
+        self.replica_look: List[Look] = []
         self.name = f"{new.id}-{group_after(new.id, text.root)}-{old.id}.over"
 
     def signature(self) -> str:
         """Changes when there is something to be brought over, or to be told again."""
         told = self.new.listing().get(self.name)
-        looks = [look_of_replica(self.folder), told and look_of(told)]
-        return self.old.signature(self.text.group, self.old.me) + hashlib.sha256(repr(looks).encode()).hexdigest()
+        return f"{self.old.signature(self.text.group, self.old.me)}{told and look_of(told)}"
 
     def read(self, kept: Kept) -> Optional[Read]:
         """Takes and sends in the older circle, whose replica is stored when this returns. None if another program holds it: what that one writes
         comes later."""
         taken = {int(k): bytes.fromhex(v) for k, v in kept["taken"].items()} if kept else {}
         try:
-            with Session(self.folder) as session:
+            with Watched(self.folder) as session:
                 box = Quiet(self.old, self.text.group, self.old.me)
                 box.taken = taken
                 box.receive(session)
@@ -76,6 +87,7 @@ class Source:
             raise
         except Stale as e:
             raise Trouble(f"{e}. The files in {self.folder} were put back from a copy: nothing is brought over from there any more.") from None
+        self.replica_look = session.replica_look
         if kept and any(x < y for x, y in zip(counts, kept["counts"])):
             raise Trouble(f"{self.folder} lacks what was brought over from it: it was put back from a copy. Nothing is brought over from there any more.")
         return Read(kept["text"] if kept else self.base, text, counts, {str(k): v.hex() for k, v in box.taken.items()})
@@ -104,27 +116,33 @@ def is_begun_here(ident: str) -> bool:
 
 
 # -- what was written in a circle that doesn't count
+def state_of(circle: Circle, group: int) -> Dict[str, Any]:
+    """What this machine keeps of a text (note.py)."""
+    try:
+        with open(circle.home.path("texts", f"{group}.json"), encoding="utf-8") as f:
+            found: Dict[str, Any] = json.load(f)
+    except FileNotFoundError:
+        return {}
+    return found
+
+
 def kept_of(old: Circle, text: Text) -> Kept:
     """What was brought over into this text of a circle from the one before it; None if it was begun in it."""
-    try:
-        with open(old.home.path("texts", f"{text.group}.json"), encoding="utf-8") as f:
-            over: Dict[str, Any] = json.load(f).get("over", {})
-    except FileNotFoundError:
-        return None
-    before = old.home.kept("after")
+    before, over = old.home.kept("after"), state_of(old, text.group).get("over", {})
     return next(({**row, "from": int(key.split("-")[1])} for key, row in over.items() if key.startswith(f"{before}-")), None)
 
 
 def goes_into(old: Circle, new: Circle) -> bool:
     """Whether this machine brings what was written in a circle that it began, and that doesn't count, into this one. It begins once all that
     came into the one from before it is in the other already; that is written down, and from then on nothing more comes into the one."""
-    into = old.home.kept("into")
-    if into or not counts_before(new.family(), new.id, old.id):
-        return bool(into == new.id)
+    if old.home.kept("into"):
+        return True
     told, gone = told_over(new, old.home.kept("after")), new.gone()
     for text in old.texts():
         kept = None if str(group_after(new.id, text.root)) in gone else kept_of(old, text)
         over = told.get(kept["from"]) if kept else None
+        if state_of(old, text.group).get("pending"):
+            return False                                # whether that was brought over isn't known yet
         if kept and not (over and over.covers(kept["counts"]) and over.has_come(new)):
             return False
     old.home.keep("into", new.id)
@@ -136,7 +154,13 @@ def older(new: Circle) -> List[str]:
     """The circles from which this machine may have to bring something into this one."""
     before = new.home.kept("after")
     found = [before] if before and new.me == 0 and not new.home.kept("into") else []
-    return found + [x for x in sorted(new.family()) if x != new.id and is_begun_here(x)]
+    return found + [x for x in sorted(new.family()) if is_begun_here(x) and may_go_into(x, new)]
+
+
+def may_go_into(old: str, new: Circle) -> bool:
+    """Whether what was written in a circle that this machine began comes into this one, as far as the circles tell."""
+    into: Optional[str] = Home(old).kept("into")
+    return counts_before(new.family(), new.id, old) if into is None else into == new.id
 
 
 def sources(new: Circle, stack: ExitStack, say: Say) -> Dict[int, List[Source]]:
@@ -184,4 +208,4 @@ def bring_names(old: Circle, new: Circle) -> List[Text]:
     return old.texts()
 
 
-__all__ = ["Over", "Read", "Source", "is_begun_here", "older", "sources", "told_over"]
+__all__ = ["Over", "Read", "Source", "Watched", "is_begun_here", "older", "sources", "state_of", "told_over"]

@@ -6,7 +6,7 @@ from contextlib import ExitStack
 from typing import Any, Dict, List, Optional, Set
 
 from .carrying import Source, sources
-from .circle import Circle, Text, begin, look_of_replica
+from .circle import Circle, Text, begin
 from .errors import RlsError, Stale, Trouble
 from .family import idents
 from .files import Busy, look, read_whole, understood
@@ -14,7 +14,7 @@ from .giver import Giver
 from .handing import hand_part, take_part
 from .home import HELD, Home, holder, homes
 from .kept_for import tell_kept
-from .note import Note, signature
+from .note import Note, replica_looks, signature
 from .places import free_path, is_plain, make_room, move_within, notes_in, within
 
 UNREAD = 8                      # the status if a file can't be read or written
@@ -203,7 +203,8 @@ class Desk:
         seen = self.idle.get(str(text.group))
         if not seen or path and not seen[2] or seen[2] != (look(path) if path else []):
             return False
-        return bool(seen[0] == signature(self.circle, text, self.late.get(text.group, ())) and seen[1] == look_of_replica(self.circle.replica(text.group)))
+        late = self.late.get(text.group, ())
+        return bool(seen[0] == signature(self.circle, text, late) and seen[1] == replica_looks(self.circle, text, late))
 
     def _round(self, note: Note, end: float, mine: bool) -> int:
         """One round of one text. The status."""

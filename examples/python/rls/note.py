@@ -5,7 +5,7 @@ import json
 import os
 from typing import Any, Callable, Dict, List, Optional, Sequence, Tuple
 
-from .carrying import Source
+from .carrying import Source, Watched
 from .circle import Circle, Quiet, Text, look_of_replica
 from .errors import RlsError, Trouble
 from .files import Content, Found, Look, left_over, put, read_whole, understood
@@ -22,23 +22,17 @@ SHORT = 200                     # characters of a text that may go as a whole
 Say = Callable[[str], None]
 BaseOf = Callable[[str, Look], str]
 Versions = Sequence[str]
-Seen = Tuple[str, List[Look], Look]     # the looks of a text's messages, of its replica and of its file
-
-
-class Watched(Session):
-    """A session that looks at the replica's files before it lets go of their lock: whatever changes them later is somebody else."""
-
-    replica_look: List[Look] = []
-
-    def _release(self) -> None:
-        if self.stored.held is not None:
-            self.replica_look = look_of_replica(self.folder)
-        super()._release()
+Seen = Tuple[str, List[Look], Look]     # the looks of a text's messages, of its replicas and of its file
 
 
 def signature(circle: Circle, text: Text, sources: Sequence[Source]) -> str:
     """Changes when a message for or from this member does, here or in a circle from which this machine brings something over."""
     return "".join([circle.signature(text.group, circle.me), *(x.signature() for x in sources)])
+
+
+def replica_looks(circle: Circle, text: Text, sources: Sequence[Source]) -> List[Look]:
+    """Change when one of the replicas is stored."""
+    return [x for folder in (circle.replica(text.group), *(x.folder for x in sources)) for x in look_of_replica(folder)]
 
 
 class Note:
@@ -72,7 +66,8 @@ class Note:
             file_look = self._round(session, mine)
         if self.trouble:
             raise Trouble(self.trouble)
-        return messages if self.is_all_over else "", session.replica_look, file_look
+        looks = [x for y in (session.replica_look, *(x.replica_look for x in self.sources)) for x in y]
+        return messages if self.is_all_over else "", looks, file_look
 
     def _round(self, session: Session, mine: bool) -> Look:
         self._look_at(session.head())
@@ -280,4 +275,4 @@ def older_base(versions: List[str], new: str) -> Optional[str]:
     return old if far < distance(last) and 2 * kept > len(old) and is_apart else None
 
 
-__all__ = ["Note", "Seen", "older_base", "signature"]
+__all__ = ["Note", "Seen", "older_base", "replica_looks", "signature"]

@@ -32,7 +32,7 @@ def free(path: str, fits: Callable[[str], bool]) -> str:
 
 
 def free_path(folder: str, name: str, taken: Set[str]) -> str:
-    """Where a new text has its file: a file of this machine isn't given away because somebody has named a text so, and nothing is put behind a
+    """Where a new text has its file: a file of this machine isn't given away because somebody has named a text so, and nothing is put through a
     link. What stands in the way is passed by with a number."""
     *folders, last = name.split("/")
     for part in folders:

@@ -1,11 +1,10 @@
 """A new circle in the same folder, when there are too few numbers or the giver is lost. One member begins it (`rls share SHARED --again`); each
 other machine goes over at a `rls sync`, once all that it has is there (docs/SHARING.md, "A new circle in the same folder")."""
-import json
 import os
 import re
-from typing import Any, Callable, Dict, List, Optional
+from typing import Callable, List, Optional
 
-from .carrying import Over, is_begun_here, older, told_over
+from .carrying import Over, is_begun_here, older, state_of, told_over
 from .circle import Circle, circles_in
 from .commands import Commands
 from .desk import Desk
@@ -116,15 +115,6 @@ def is_free(folder: str) -> bool:
     return True
 
 
-def state_of(circle: Circle, group: int) -> Dict[str, Any]:
-    try:
-        with open(circle.home.path("texts", f"{group}.json"), encoding="utf-8") as f:
-            found: Dict[str, Any] = json.load(f)
-    except FileNotFoundError:
-        return {}
-    return found
-
-
 def go_over(old: Circle, new: Circle, say: Say) -> None:
     """This machine's files are in the newer circle from the moment on when that is kept, at the end. What comes before can be repeated until then."""
     groups = {str(x.group): str(group_after(new.id, x.root)) for x in old.texts()}
@@ -163,7 +153,7 @@ def duties(circle: Circle, wait: float, say: Say) -> None:
                     say(f"an older circle: {e}")
 
 
-def left_behind(circle: Circle) -> List[str]:
+def not_come_over(circle: Circle) -> List[str]:
     """The names of those whose files are in an older circle of the folder still, as far as this machine has a part in that and is told."""
     found = []
     for ident in line(circle.family(), circle.id)[:-1]:

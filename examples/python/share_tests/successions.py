@@ -2,6 +2,7 @@
 import os
 import random
 import shutil
+import subprocess
 from typing import List
 
 import rls.circle
@@ -284,6 +285,19 @@ def test_names_come_over() -> None:
     ada.write("not empty any more\n", "empty.md")
     all_sync([ada, ben])
     assert ben.read("empty.md") == "not empty any more\n"
+
+
+def test_idle_after_again() -> None:
+    """Once nobody writes, a round of the beginner, who looks after the old circle as well, starts no program."""
+    ada, ben = again_in("idle-again")
+    assert ada.rls("share", ada.shared, "--again", "--members", "4") == 0
+    all_sync([ben, ada] * 5)
+    assert circles(ada) == circles(ben)
+    real, subprocess.Popen = subprocess.Popen, None         # type: ignore[misc, assignment]
+    try:
+        all_sync([ada, ben])
+    finally:
+        subprocess.Popen = real                             # type: ignore[misc]
 
 
 def test_one_after_another() -> None:
