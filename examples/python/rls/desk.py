@@ -193,7 +193,11 @@ class Desk:
         for text in self.circle.texts():
             path = self.files.get(str(text.group))
             if text.group not in left_out and only in (None, path) and (mine and only or not self.is_idle(text, path)):
-                status = max(status, self._round(Note(self.circle, text, path, say, self.late.get(text.group, ())), time.monotonic() + wait, mine))
+                late = self.late.get(text.group, ())
+                found = self._round(Note(self.circle, text, path, say, late), time.monotonic() + wait, mine)
+                if found and path and late:             # others wait for what comes over, and not for this machine's file
+                    self._round(Note(self.circle, text, None, say, late), time.monotonic(), False)
+                status = max(status, found)
         if self.idle != kept:
             self.home.keep("idle", self.idle)
         return status

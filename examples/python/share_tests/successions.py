@@ -247,6 +247,20 @@ def test_beginner_put_back() -> None:
     assert ada.read() == "one BEN two three BEN\n"
 
 
+def test_bad_file_of_the_beginner() -> None:
+    """The beginner's file is no text: she is told, and what came late is brought over all the same."""
+    ada, ben = again_in("bad-file-again")
+    assert ada.rls("share", ada.shared, "--again", "--members", "4") == 0
+    with open(os.path.join(ada.folder, "a.md"), "wb") as f:
+        f.write(b"\xff no text")
+    for p in (ben, ada) * 3 + (ben,):
+        assert p.rls("sync") == (4 if p is ada else 0), p.said
+    assert circles(ada) == circles(ben) and ben.read() == "one BEN two three\n"
+    ada.write("one two three ADA\n")
+    all_sync([ada, ben])
+    assert ada.read() == ben.read() == "one BEN two three ADA\n", (ada.read(), ada.said)
+
+
 def test_open_in_an_editor() -> None:
     """A program has Ben's text open: he goes over when that ends, with what was typed there."""
     ada, ben = again_in("open-again")
