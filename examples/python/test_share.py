@@ -10,7 +10,7 @@ import traceback
 from share_tests import copies, folders, numbers, people, plain_files, subfolders, successions
 
 LONG = {"giver_dies", "share_is_stopped", "newcomer_dies", "part_goes_on", "killed", "dies_at_each_step", "dies_with_a_save_in_between", "stopped_while_a_text_is_added", "mark_comes_first", "thousand_notes", "hostile_carrier", "beginner_dies", "late_edits_once",
-        "going_over_dies", "two_begin_again", "waits_for_what_it_has", "waits_for_the_messages", "parts"}
+        "going_over_dies", "two_begin_again", "waits_for_what_it_has", "waits_for_the_messages", "waits_in_the_other", "parts"}
 
 
 def main(names: "list[str]") -> int:

@@ -16,7 +16,7 @@ class Carrier:
         self.late: List[Tuple[int, Person, str, Optional[bytes]]] = []
         self.old: List[Tuple[str, bytes]] = []
         self.newest: Dict[str, Tuple[Person, Optional[bytes]]] = {}
-        self.now = 0
+        self.now = self.last_change = 0
         self.did: Dict[str, int] = {}
 
     def count(self, what: str) -> None:
@@ -39,7 +39,7 @@ class Carrier:
                 data = there.get(name)
                 if self.seen.get((p.name, name)) != data:
                     self.seen[p.name, name] = data
-                    self.newest[name] = p, data
+                    self.newest[name], self.last_change = (p, data), self.now
                     for q in self.people:
                         if q is not p:
                             self.late.append((self.now + (self.r.randint(1, 12) if self.r.random() < bad else 1), q, name, data))
@@ -86,9 +86,12 @@ class Carrier:
 
     def settle(self) -> None:
         """What each has written itself comes to all others at last."""
+        begun = self.now
         for k in range(60):
             if k % 20 == 0:
                 self.bring_all()
+            if self.now > max(begun + 22, self.last_change + 6):
+                break                                   # nobody has written anything for long
             self.step(0)
             for p in self.people:
                 p.rls("sync", "--wait", "20")

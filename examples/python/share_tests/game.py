@@ -88,6 +88,8 @@ class Game:
         for k in range(40):
             if k == 10:
                 self.carrier.bring_all()
+            if k > 10 and self.carrier.now > self.carrier.last_change + 8 and len(self.joined) == len(self.people):
+                break
             self.carrier.step(0)
             for p in self.people:
                 if p.name in self.joined:

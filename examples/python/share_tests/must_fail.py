@@ -74,7 +74,7 @@ RULES = [
     ("of two circles one counts", "family", "    return x < y and (x, y) != ways[0]", "    return x != y and (x, y) != ways[0]", "two_begin_again"),
     ("what came from before isn't brought again", "carrying", 'base = "" if is_before else (kept_of(old, text) or {"text": ""})["text"]', 'base = ""', "two_begin_again"),
     ("from then on nothing more comes from before", "carrying", 'and new.me == 0 and not new.home.kept("into")', "and new.me == 0", "two_begin_again"),
-    ("the circle that counts has what came from before", "carrying", "        if kept and not (over and over.covers", "        if False and not (over and over.covers", "two_begin_again"),
+    ("the circle that counts has what came from before", "carrying", "        if kept and not (over and over.covers", "        if False and not (over and over.covers", "waits_in_the_other"),
     ("an older replica brings nothing over", "carrying", '    if kept and any(x < y for x, y in zip(counts, kept["counts"])):', "    if False:", "beginner_put_back"),
     ("what was dropped is dropped in the new circle", "carrying", "        if told.gone and str(group) in there", "        if False and str(group) in there", "names_come_over"),
     ("a new name comes over", "carrying", "        elif names.get(key, text.name) != text.name:", "        elif False:", "names_come_over"),

@@ -108,11 +108,7 @@ def test_two_begin_again() -> None:
             all_sync([other])                           # in the first circle, and nobody but the one who begins gets it
             bring(other, p)
             ident = f"{k ^ first}" * 16
-            real, rls.circle.secrets.token_hex = rls.circle.secrets.token_hex, lambda n, ident=ident: ident     # type: ignore[misc, assignment]
-            try:
-                assert p.rls("share", p.shared, "--again", "--members", "6") == 0, p.said
-            finally:
-                rls.circle.secrets.token_hex = real     # type: ignore[misc]
+            begin_as(p, ident)
             together([p, other], 10)
             assert p.circle().id == other.circle().id == ident, (other.said, other.circle().id)
             for q in p, other:
@@ -216,6 +212,39 @@ def test_waits_for_the_messages() -> None:
     assert "BEN" in ada.read() and circles(ben) != circles(ada) and ben.circle().me == 1
     together(people, 14)
     assert len(set(circles(*people))) == 1 and all(words_in(p) == ["BEN", "begin"] for p in people), [p.read() for p in people]
+
+
+def begin_as(p: Person, ident: str) -> None:
+    """Begins a new circle with this number."""
+    real, rls.circle.secrets.token_hex = rls.circle.secrets.token_hex, lambda n: ident      # type: ignore[misc, assignment]
+    try:
+        assert p.rls("share", p.shared, "--again", "--members", "6") == 0, p.said
+    finally:
+        rls.circle.secrets.token_hex = real             # type: ignore[misc]
+
+
+def test_waits_in_the_other() -> None:
+    """Ada and Ben begin a new circle each, and Ada's counts. Ben's has an edit of Cleo's in the first one that Ada hasn't got: what was written in
+    Ben's doesn't come into hers before that is there."""
+    people = apart("waits-other")
+    ada, ben, cleo = people[:3]
+    first = str(ada.circle().texts()[0].group)
+    cleo.add("CLEO", random.Random(1))
+    all_sync([cleo])
+    bring(cleo, ben)
+    all_sync([ben])
+    begin_as(ada, "0" * 16)
+    begin_as(ben, "1" * 16)
+    ben.add("BEN", random.Random(1))
+    for _ in range(6):
+        for p, other in (ben, ada), (ada, ben):
+            for x in os.listdir(p.shared):
+                if not x.startswith(f"{first}-"):       # no message of the first circle
+                    shutil.copy(os.path.join(p.shared, x), other.shared)
+            all_sync([other])
+    assert circles(ben) == ["1" * 16] and words_in(ben) == ["BEN", "CLEO", "begin"] and words_in(ada) == ["begin"]
+    together(people, 20)
+    assert circles(*people) == ["0" * 16] * 5 and all(words_in(p) == ["BEN", "CLEO", "begin"] for p in people), [p.read() for p in people]
 
 
 def test_both_meant_it() -> None:
