@@ -58,6 +58,7 @@ class Circle:
         kept = self.home.kept("seat")
         self.seat: Optional[Seat] = Seat(**kept) if kept else None
         self.told: Optional[Dict[str, Told]] = None
+        self.named: Optional[List[Text]] = None         # the texts as they are told
         self.list_again()
         self.has_marked = False
         self.ends: Dict[int, List[str]] = {}
@@ -250,7 +251,9 @@ class Circle:
 
     def texts(self) -> List[Text]:
         """The texts of the circle, each under the name that was said last."""
-        return texts_of(self.texts_told())
+        if self.named is None:
+            self.named = texts_of(self.texts_told())
+        return self.named
 
     def say_text(self, group: int, path: str, begun: bool = False, gone: bool = False, root: Optional[int] = None) -> None:
         """Says what this member calls a text, with the folders that it is in, from now on for all; or that it is dropped."""
@@ -261,6 +264,7 @@ class Circle:
         said = Told(stamp, self.me, name, gone or old.gone, self.me if begun or old.begun == self.me else None, Place(stamp, self.me, folders), first(old.root, root))
         write_notice(self.path(f"{self.id}-{group}-{self.me}.text"), **said.words())
         told[str(group)] = old.joined(said)
+        self.named = None
         self._keep_told(self._kept_told()["files"])
 
     # -- replicas

@@ -61,7 +61,8 @@ class Desk:
             return
         if not os.path.isdir(self.folder):
             raise Trouble(f"the folder of the texts, {self.folder}, isn't there. Perhaps its disk isn't mounted; nothing was taken or sent.")
-        self._follow_renames()
+        new = self._new_files()
+        self._follow_renames(new)
         texts = self.circle.texts()
         for text in texts:
             self._name_as_told(text)
@@ -69,7 +70,8 @@ class Desk:
             if str(text.group) not in self.files:
                 self.bind(text.group, free_path(self.folder, text.name, set(self.files.values())))
         if self.adds:
-            self.add_all(self._new_files())
+            bound = set(self.files.values())
+            self.add_all([x for x in new if x not in bound])
 
     def _finish_moving(self) -> None:
         """A stop came while a file was moved: it is under one of the two names, or under both."""
@@ -117,10 +119,9 @@ class Desk:
             found |= {os.path.realpath(x) for x in (seat.get("shared"), bound.get("folder")) if x and x != self.folder}
         return found
 
-    def _follow_renames(self) -> None:
+    def _follow_renames(self, new: List[str]) -> None:
         """A file that is missing, and a new one with most of its words, are one: somebody has given it another name, or put it into another
         folder. One whose own name is the same comes first."""
-        new = self._new_files()
         lost = {group: Note(self.circle, Text(int(group), ""), None, say).last() for group, x in self.files.items() if not os.path.exists(x)} if new else {}
         for path in new if lost else []:
             words, last = words_of(path), os.path.basename(path)
