@@ -39,6 +39,7 @@ class Desk:
         self.moving: List[str] = kept.get("moving", [])         # from where to where a file is moved just now
         self.left: List[str] = kept.get("left", [])             # files whose texts were dropped: they aren't added anew by themselves
         self.idle: Dict[str, Any] = self.home.kept("idle") or {}
+        self.passed_by: Optional[Set[str]] = None       # folders in which no text has a file
 
     def keep(self) -> None:
         self.home.keep("bound", {"files": self.files, "folder": self.folder, "adds": self.adds, "deep": self.is_deep, "moving": self.moving, "left": self.left})
@@ -68,7 +69,7 @@ class Desk:
             self._name_as_told(text)
         for text in texts:
             if str(text.group) not in self.files:
-                self.bind(text.group, free_path(self.folder, text.name, set(self.files.values())))
+                self.bind(text.group, free_path(self.folder, text.name, set(self.files.values()), self._left_out()))
         if self.adds:
             bound = set(self.files.values())
             self.add_all([x for x in new if x not in bound])
@@ -113,10 +114,13 @@ class Desk:
 
     def _left_out(self) -> Set[str]:
         """Folders in which no file is anybody's note, or is one of another circle."""
+        if self.passed_by is not None:
+            return self.passed_by
         found = {os.path.realpath(x) for x in (self.circle.shared, homes())}
         for ident in idents():
             seat, bound = Home(ident).kept("seat") or {}, Home(ident).kept("bound") or {}
             found |= {os.path.realpath(x) for x in (seat.get("shared"), bound.get("folder")) if x and x != self.folder}
+        self.passed_by = found
         return found
 
     def _follow_renames(self, new: List[str]) -> None:
@@ -139,7 +143,7 @@ class Desk:
         if not self.folder or old is None or within(self.folder, old) in ("", text.name):
             return
         new = os.path.join(self.folder, text.name)
-        if os.path.lexists(new) or new in self.files.values() or not (is_plain(self.folder, new) and is_plain(self.folder, old)):
+        if os.path.lexists(new) or new in self.files.values() or not all(is_plain(self.folder, x, self._left_out()) for x in (old, new)):
             return
         if os.path.exists(old):
             self.moving = [str(text.group), old, new]
@@ -214,8 +218,8 @@ class Desk:
     def _round(self, note: Note, end: float, mine: bool) -> int:
         """One round of one text. The status."""
         name = note.text.name
-        if note.path and self.folder and not is_plain(self.folder, note.path):
-            say(f"{name}: a folder of {note.path} is a link, or a file, and isn't followed: nothing was taken or sent.")
+        if note.path and self.folder and not is_plain(self.folder, note.path, self._left_out()):
+            say(f"{name}: a folder of {note.path} is a link, or a file, or is kept for something else, and isn't followed: nothing was taken or sent.")
             return UNREAD
         while True:
             try:

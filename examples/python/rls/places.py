@@ -12,12 +12,17 @@ def within(folder: Optional[str], path: str) -> str:
     return path[len(folder) + 1:] if folder and path.startswith(folder.rstrip("/") + "/") else ""
 
 
-def is_plain(folder: str, path: str) -> bool:
-    """Whether what is between the folder and a file in it are folders, or aren't there yet: no links, and no files."""
+def may_hold(folder: str, left_out: Set[str]) -> bool:
+    """Whether texts may have their files in this folder: it isn't there yet, or it is one, and no link, and not one that is left out."""
+    return (not os.path.lexists(folder) or not os.path.islink(folder) and os.path.isdir(folder)) and os.path.realpath(folder) not in left_out
+
+
+def is_plain(folder: str, path: str, left_out: Set[str]) -> bool:
+    """Whether all folders between the folder and a file in it may hold texts."""
     at = folder
     for part in within(folder, path).split("/")[:-1]:
         at = os.path.join(at, part)
-        if os.path.lexists(at) and (os.path.islink(at) or not os.path.isdir(at)):
+        if not may_hold(at, left_out):
             return False
     return True
 
@@ -31,12 +36,12 @@ def free(path: str, fits: Callable[[str], bool]) -> str:
     return name
 
 
-def free_path(folder: str, name: str, taken: Set[str]) -> str:
+def free_path(folder: str, name: str, taken: Set[str], left_out: Set[str]) -> str:
     """Where a new text has its file: a file of this machine isn't given away because somebody has named a text so, and nothing is put through a
     link. What stands in the way is passed by with a number."""
     *folders, last = name.split("/")
     for part in folders:
-        folder = free(os.path.join(folder, part), lambda x: not os.path.lexists(x) or not os.path.islink(x) and os.path.isdir(x))
+        folder = free(os.path.join(folder, part), lambda x: may_hold(x, left_out))
     return free(os.path.join(folder, last), lambda x: not os.path.lexists(x) and x not in taken)
 
 

@@ -66,6 +66,9 @@ def test_folders_in_folders() -> None:
     assert [x for x in tree(ada.folder) if not x.startswith((".git", "link", "shared/"))] == wanted, (tree(ada.folder), ada.said)
     assert not os.path.exists(os.path.join(ada.folder, "c")), "the empty folder stays"
     assert ada.read("g/b.md") == ben.read("g/b.md") == "another fine b with other good contents\n"
+    writes(ben, "shared/x.seat.md", "in a folder that Ada has for something else\n")
+    all_sync([ben, ada])
+    assert ada.read("shared-2/x.seat.md") == ben.read("shared/x.seat.md") and "x.seat.md" not in os.listdir(ada.shared), tree(ada.folder)
     assert ben.rls("drop", "g/d/e.txt") == 0
     all_sync([ada])
     assert "g/d/e.txt" in ada.said and "was dropped" in ada.said, ada.said
