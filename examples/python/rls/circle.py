@@ -153,7 +153,8 @@ class Circle:
     def family(self) -> Family:
         """The circles that were ever seen in the shared folder: what says that there is one may be away at any moment."""
         known: Family = self.home.kept("family") or {}
-        new = {x[1]: read_notice(self.path(x[0])) for x in map(CIRCLE.fullmatch, self.listing()) if x and x[1] not in known}
+        names = [x for x in self.listing() if x.endswith(".circle")]
+        new = {x[1]: read_notice(self.path(x[0])) for x in map(CIRCLE.fullmatch, names) if x and x[1] not in known}
         found = {**known, **{x: after(notice) for x, notice in new.items() if notice and notice.get("circle") in (FORM, LATER_FORM)}}
         if found != known and os.path.isdir(self.home.folder):
             self.home.keep("family", found)

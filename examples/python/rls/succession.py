@@ -26,7 +26,8 @@ def successors(circle: Circle) -> List[Circle]:
     """The circles to which this machine may go over from this one, those that count more first: those that were begun after it, and those into
     which somebody brings what was written in it."""
     family = circle.family()
-    pairs = [x.groups() for x in map(re.compile(r"([0-9a-f]{16})-[0-9]+-([0-9a-f]{16})\.over").fullmatch, circle.listing()) if x]
+    names = [x for x in circle.listing() if x.endswith(".over")]
+    pairs = {x.groups() for x in map(re.compile(r"([0-9a-f]{16})-[0-9]+-([0-9a-f]{16})\.over").fullmatch, names) if x}
     found = {x for x, before in family.items() if before == circle.id} | {new for new, old in pairs if old == circle.id}
     for mine in filter(is_begun_here, idents()):        # what was written there has to come into another, if it doesn't count
         found |= {new for new, old in pairs if old == Home(mine).kept("after") and counts_before(family, new, mine)}
