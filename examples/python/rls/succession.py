@@ -76,6 +76,8 @@ def exchanges(circle: Circle, new: Circle, wait: float, say: Say) -> bool:
     new.home.make()
     if new.home.kept("waits") != circle.id:
         new.home.keep("waits", circle.id)
+    if not new.seat:
+        say(f"{name_of(circles_in(circle.shared).get(new.id))} has begun a new circle in {circle.shared}: this machine asks for a number there, and goes over once all that it has is there.")
     with new.hold(wait, bare=True):
         ask(new, circle.seat.name if circle.seat else "")
         if take_seat(new):
