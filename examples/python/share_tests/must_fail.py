@@ -79,6 +79,7 @@ RULES = [
     ("an older replica brings nothing over", "carrying", '    if kept and any(x < y for x, y in zip(counts, kept["counts"])):', "    if False:", "beginner_put_back"),
     ("what was dropped is dropped in the new circle", "carrying", "        if told.gone and str(group) in there", "        if False and str(group) in there", "names_come_over"),
     ("a new name comes over", "carrying", "        elif names.get(key, text.name) != text.name:", "        elif False:", "names_come_over"),
+    ("all that is kept for the folder was moved", "__main__", "    for ident in {circle.id, *circle.family()}:", "    for ident in {circle.id}:", "moved_after_again"),
     ("what comes over doesn't wait for a file", "desk", "                if found and path and late:", "                if False:", "bad_file_of_the_beginner"),
     ("who leaves says so", "parting", "        Commands(folder).leave()", "        pass", "parts"),
     ("a folder that is away is told", "desk", "        if not os.path.isdir(self.folder):\n            raise", "        if False:\n            raise", "folder_away"),

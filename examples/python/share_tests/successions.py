@@ -330,6 +330,22 @@ def test_names_come_over() -> None:
     assert ben.read("empty.md") == "not empty any more\n"
 
 
+def test_moved_after_again() -> None:
+    """The beginner moves all that her machine keeps, and the shared folder too: what is late is brought over all the same."""
+    ada, ben = again_in("moved-again")
+    assert ada.rls("share", ada.shared, "--again", "--members", "4") == 0
+    shutil.copytree(ada.home, ada.home + ".moved")
+    shutil.rmtree(ada.home)
+    os.rename(ada.shared, ada.shared + ".moved")
+    ada.home, ada.shared = ada.home + ".moved", ada.shared + ".moved"
+    ben.shared = ada.shared
+    assert ada.rls("sync", ada.shared) == 71 and "is a copy" in ada.said, ada.said
+    assert ada.rls("sync", "--moved", ada.shared) == 0, ada.said
+    for p in (ben, ada) * 4:
+        assert p.rls("sync", p.shared) == 0, p.said
+    assert circles(ada) == circles(ben) and ada.read() == ben.read() == "one BEN two three\n", (ada.said, ben.said)
+
+
 def test_idle_after_again() -> None:
     """Once nobody writes, a round of the beginner, who looks after the old circle as well, starts no program."""
     ada, ben = again_in("idle-again")
