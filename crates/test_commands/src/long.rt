@@ -21,7 +21,7 @@ fn ends_by(alloc: Global, input: &[u8], replies: &[u8]) -> Result<bool, Fail> {
     let file = bytes(alloc, HELLO_FILE)?;
     let mut keeper = MemoryKeeper::new(alloc, Some(&file), &[])?;
     let mut source = MemorySource::new(alloc, input, &[])?;
-    let mut output = MemorySink::new(alloc, 10_000, &[])?;
+    let mut output = MemorySink::new(alloc, 1_000_000, &[])?;
     let mut errors = MemorySink::new(alloc, 1_000, &[])?;
     let status = serve(alloc, &mut keeper, &mut source, &mut output, &mut errors);
     Ok(status == 0 && output.written().ends_with(replies))
