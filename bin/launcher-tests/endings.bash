@@ -113,6 +113,38 @@ edit-text awk 8
 edit-text tr 8
 check cksum 8
 END
+# A script in parts: as if one command might have 1,200,000 bytes. Its lines have 1,048,576 characters at most.
+head -c 2500000 /dev/zero | tr '\0' x >parts
+in_parts="mode=\$1; shift 2; exec $(command -v split) \"\$mode\" 1200000 \"\$@\""
+begin_folder restart
+(cd of && "$rls" edit --text ../parts >../out)
+expect 'a new group with a long text' 0 "$(cd of && with_tool split "$in_parts" command_of restart >../out 2>../err; echo $?)"
+expect 'a new group with a long text: the text' 0 "$(cd begun && "$rls" text | cmp - ../parts; echo $?)"
+echo 'kill -KILL $$' >how
+# (`stat`, `text` and `new` come before the first part)
+for number in 4 5; do
+  rm -rf begun calls
+  echo "$number" >ends_at
+  { status=$(cd of && RLS_PROGRAM=$room/ends with_tool split "$in_parts" command_of restart >../out 2>../err; echo $?); } 2>/dev/null
+  expect "a new group with a long text, of which part $((number - 3)) fails" '137 none' "$status $([ -e begun ] || echo none)"
+done
+begin_folder restart
+ln -s nowhere begun
+expect 'a new group where a link leads nowhere' 7 "$(cd of && command_of restart >../out 2>../err; echo $?)"
+expect 'a new group where a link leads nowhere: it stays' nowhere "$(readlink begun)"
+# A program that is named from its folder is found from others.
+begin_folder retire
+cp "$real" of/program
+expect 'a number that nobody uses, by a program that is named from its folder' 'retired 2' "$(cd of && RLS_PROGRAM=./program command_of retire)"
+# Another command stores while copies are summed up.
+begin_folder check
+cat >changing <<END
+#!/bin/bash
+if [ "\$1" = ids ] && [ ! -e $room/changed ]; then : >$room/changed; echo 'i 0 y' | $real edit >/dev/null; fi
+exec $real "\$@"
+END
+chmod +x changing
+expect 'a check while another command stores is one of one moment' same "$([ "$(cd of && RLS_PROGRAM=$room/changing command_of check)" = "$(cd of && command_of check)" ] && echo same)"
 begin_folder new
 expect 'new without sync' 7 "$(cd of && with_tool sync 'exit 1' command_of new >../out 2>../err; echo $?)"
 expect 'new without sync: it is said' yes "$(says 'a power failure now might take it away')"

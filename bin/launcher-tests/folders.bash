@@ -57,6 +57,7 @@ expect 'a new that was stopped, with other words' 71 "$(status_of "$rls" new 7 1
 expect 'a new that was stopped, with other words: what to do' yes "$(says 'rm replica.0 replica.1')"
 expect 'a new that was stopped' 'new 7 0 2' "$("$rls" new 7 0 2)"
 : >replica.gate
+expect 'a new that was stopped, and the gate is empty, with other words' 71 "$(status_of "$rls" new 7 1 2)"
 expect 'a new that was stopped, and the gate is empty' 'new 7 0 2' "$("$rls" new 7 0 2)"
 cp replica.1 slot && rm replica.gate replica.1
 expect 'a new that was stopped after one slot' 71 "$(status_of "$rls" new 7 0 2)"
@@ -81,9 +82,16 @@ else
   expect 'a session where nothing may be stored' 71 "$(cd readable && echo q | status_of "${user[@]}" "$rls" session)"
   expect 'a session where nothing may be stored: why' yes "$(says 'may not be written')"
   expect 'a session where nothing may be stored, forced: it is said at once' yes "$(cd readable && printf 't\nq\n' | RLS_FORCE=1 "${user[@]}" "$rls" session >../out 2>../err; head -1 ../err >../first; grep -q 'may not be written' ../first && echo yes)"
+  for file in replica.0 replica.1 replica.gate; do
+    cp -r ben "without-$file" && chmod -R a+rwX "without-$file" && chmod a-w "without-$file/$file"
+    expect "a session where $file may not be written" 71 "$(cd "without-$file" && echo q | status_of "${user[@]}" "$rls" session)"
+  done
+  mkdir of-one && cp "$here/../examples/hello/replica.rls" of-one && chmod a-w,a+rx of-one && chmod a+rw of-one/replica.rls
+  if [ ${#user[@]} != 0 ]; then chown 65534:65534 of-one/replica.rls; fi
+  expect 'a session where the folder of replica.rls may not be written' 71 "$(cd of-one && echo q | status_of "${user[@]}" "$rls" session)"
   expect 'a text where nothing may be stored' onetwo "$(cd readable && "${user[@]}" "$rls" text)"
 fi
-chmod u+w readable readable/replica.*
+chmod u+w readable readable/replica.* of-one 2>/dev/null
 
 # --- Completion.
 # shellcheck source-path=SCRIPTDIR source=../rls-completion.bash
@@ -101,4 +109,5 @@ ln -s ../whole linked/replica.rls
 expect 'a link in place of a replica' 71 "$(cd linked && echo 'i 0 x' | status_of "$rls" edit)"
 expect 'a link in place of a replica: what to do' yes "$(says 'is a symbolic link')"
 expect 'a link in place of a replica is read' 0 "$(cd linked && status_of "$rls" text)"
+expect 'a link in place of a replica: its text goes on elsewhere' 0 "$(cd linked && status_of "$rls" restart 8 0 2 ../from-link)"
 expect 'a link in place of a replica stays' yes "$([ -L linked/replica.rls ] && echo yes)"

@@ -5,14 +5,15 @@
 
 # Numbers of four bytes.
 u32() { local n; for n; do printf '%b' "$(printf '\\x%02x\\x%02x\\x%02x\\x%02x' $((n >> 24 & 255)) $((n >> 16 & 255)) $((n >> 8 & 255)) $((n & 255)))"; done; }
-# A message without operations: head HIGH LOW MEMBERS SENDER COUNTS..
-head_of() { printf 'RLSM\3'; u32 "$@" 0; }
+# A message without operations, of form 3 or the one that `form` says: head HIGH LOW MEMBERS SENDER COUNTS..
+head_of() { printf 'RLSM%b' "\\${form:-3}"; u32 "$@" 0; }
 # The replica of group 0x0102030405060708 that has made 300 operations, as member 0 of 2.
 mkdir made && (cd made && "$rls" new 72623859790382856 0 2 >../out && for _ in $(seq 300); do echo 'i 0 x'; done | "$rls" edit >../out 2>&1)
 high=16909060 low=84281096
 takes() { rm -rf taking && cp -r "$1" taking && shift && head_of "$@" >forged && (cd taking && status_of "$rls" take <../forged); }
 for count in 0 1 44 299 300; do expect "it knows $count of 300" 0 "$(takes made $high $low 2 1 $count 0)"; done
-for count in 301 511 556 65536 65836 16777216 16777516 4294967295; do
+# (in two of these, three bytes are those that stand for a byte 0 while the head is read)
+for count in 301 511 556 65536 65836 16777216 16777516 4261281285 4278124037 4294967295; do
   expect "it knows $count of 300" 71 "$(takes made $high $low 2 1 $count 0)"
   expect "it knows $count of 300: it is said" yes "$(says "knows $count operations of member 0, but this replica of member 0 has made 300")"
   expect "it knows $count of 300: it is noted" "72623859790382856-2-0 $count 1" "$(cat taking/replica.stale)"
@@ -25,6 +26,24 @@ for shift in 0 8 16 24; do
   expect "other members, byte at $shift" 4 "$(takes made $high $low $((2 ^ 1 << shift)) 1 301 0 0)"
   expect "other members, byte at $shift: nothing is noted" no "$([ -e taking/replica.stale ] || echo no)"
 done
+for form in 1 2 3; do expect "it knows more, form $form" 71 "$(takes made $high $low 2 1 301 0)"; done
+for form in 0 4; do expect "another form is for the program to say: $form" 4 "$(takes made $high $low 2 1 301 0)"; done
+unset form
+# Groups that differ in bytes that stand for a byte 0 while the head is read.
+mkdir small && (cd small && "$rls" new 7 0 2 >../out && echo 'i 0 x' | "$rls" edit >../out)
+for byte in 253 254; do
+  expect "another group, with bytes $byte" 4 "$(takes small $((byte * 16843009)) $((byte * 16843008 + 7)) 2 1 301 0)"
+  expect "another group, with bytes $byte: nothing is noted" no "$([ -e taking/replica.stale ] || echo no)"
+done
+# The most members; and a file of the oldest form, which has no counts.
+mkdir most && (cd most && "$rls" new 7 63 64 >../out && echo 'i 0 x' | "$rls" edit >../out)
+mapfile -t others < <(for _ in $(seq 63); do echo 0; done)
+expect '64 members: it knows as many' 0 "$(takes most 0 7 64 0 "${others[@]}" 1)"
+expect '64 members: it knows more' 71 "$(takes most 0 7 64 0 "${others[@]}" 2)"
+mkdir oldest && { printf 'RLSF\1' && u32 0 7 2 0 1 && printf '\0' && u32 0 1 0 0 && printf '\0\0\0\0\0\1\1\177\377\377\377' && u32 0 1 0 5 && printf hello && u32 0; } >oldest/replica.rls
+expect 'a file of the oldest form: its text' hello "$(cd oldest && "$rls" text)"
+expect 'a file of the oldest form: it knows as many' 0 "$(takes oldest 0 7 2 1 1 0)"
+expect 'a file of the oldest form: it knows more' 71 "$(takes oldest 0 7 2 1 2 0)"
 mkdir of300 && (cd of300 && "$rls" new 72623859790382856 1 2 >../out)
 expect 'what it knows of others is no matter' 0 "$(takes of300 $high $low 2 0 4294967295 0)"
 expect 'the own count is at the own place' 71 "$(takes of300 $high $low 2 0 0 1)"
@@ -52,6 +71,13 @@ expect 'a command that reads says nothing of it' '' "$(cd victim && quiet "$rls"
 head_of 0 8 3 2 0 9 0 >forged
 expect 'another text in the folder begins anew' '71 71' "$(cd victim && status_of "$rls" take <../forged) $(edits)"
 
+# Whom the folder doubts is a whole number.
+rm -rf victim && mkdir victim && (cd victim && "$rls" new 7 0 13 >../out && echo 'i 0 mine' | "$rls" edit >../out)
+name_of_13() { head_of 0 7 13 "$1" 9 0 0 0 0 0 0 0 0 0 0 0 0 >forged && (cd victim && status_of "$rls" take <../forged); }
+expect 'in the name of member 12' '71 0' "$(name_of_13 12) $(RLS_FORCE=1 edits)"
+expect 'in the name of member 12, again' '71 0' "$(name_of_13 12) $(edits)"
+expect 'in the name of member 1' '71 71' "$(name_of_13 1) $(edits)"
+
 # --- Whose a file is
 if [ -w /proc/version ] && command -v setpriv >/dev/null 2>&1; then
   nobody=(setpriv --reuid 65534 --regid 65534 --clear-groups)
@@ -78,6 +104,9 @@ if [ -w /proc/version ] && command -v setpriv >/dev/null 2>&1; then
 65534:65534 600 nobody 0
 65534:65534 664 nobody 0
 END
+    # Where the folder above may not be read there is no way to sync the new name.
+    mkdir above && chmod 711 above && mkdir above/of-nobody && chown 65534:65534 above/of-nobody
+    expect 'new in a folder whose parent may not be read' 0 "$(cd above/of-nobody && status_of "${nobody[@]}" "$rls" new 7 0 2)"
     owned 65534:65534 600
     expect 'a file of another user, forced' 0 "$(cd owned && printf '' | RLS_FORCE=1 status_of "$rls" edit)"
     owned 0:65534 660 && chgrp 65534 owned && chmod g+s owned

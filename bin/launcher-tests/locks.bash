@@ -83,9 +83,32 @@ else
     exec 5>&-
     wait "$waiter"
     expect "beside a session: $command then goes on" 0 "$?"
+    [ "$command" != edit-text ] || expect 'beside a session: the text is that of the file, whatever was stored meanwhile' other "$(cd locked && "$rls" text)"
     wait
     rm requests
   done
+
+  # What has changed in the folder while a command waited is looked at: a message that was refused, and newer files.
+  waits_while() {
+    flock locked sleep 60 &
+    until_it is_taken
+    sleeper=$(pgrep -P $!)
+    (cd locked && "$rls" "$1" >../out 2>../err) <"$2" &
+    waiter=$!
+    until_it says_or_gone "$waiter"
+    "${@:3}"
+    kill "$sleeper"
+    wait "$waiter"
+  }
+  note_stale() { echo '7-3-0 9 1' >locked/replica.stale; }
+  begin_folder edit
+  echo 'i 0 x' >script
+  waits_while edit script note_stale
+  expect 'a message was refused while an edit waited' 71 "$?"
+  expect 'a message was refused while an edit waited: nothing is stored' text "$(cd locked && "$rls" text)"
+  rm -rf locked err && cp -r backup locked
+  waits_while take m2 cp ada/replica.0 ada/replica.1 ada/replica.gate locked
+  expect 'newer files came while a message waited' 0 "$?"
 
   # The program inherits the lock: a launcher that is killed lets nobody in while its program stores.
   cat >slow <<END

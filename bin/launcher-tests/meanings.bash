@@ -110,6 +110,15 @@ expect 'who reads errors alone sees one line more' 2 "$(cd ben && script 'hello\
 
 expect 'what reads a text has stopped' 9 "$(cd ben && status_of sh -c '"$1" text >/dev/full' sh "$rls")"
 expect 'what reads a text has stopped: what it means' yes "$(says 'or what reads it has stopped')"
+expect 'a report that can not be printed' 9 "$(cp -r ben reported && cd reported && "$rls" take <../m1 >/dev/full 2>../err; echo $?)"
+expect 'a report that can not be printed: the line of the program' 'sink fault' "$(head -1 err)"
+expect 'a report that can not be printed: what it means' yes "$(says 'What the command stores is stored')"
+# What reads these by a pipe has gone before they begin.
+reading=(text ids stat 'send 0' 'trial 1 5' take)
+# shellcheck disable=SC2086
+{ sleep 0.3 && cd reported && for command in "${reading[@]}"; do "$rls" $command <../m1 2>>../gone.err; echo "$? $command" >>../gone; done; } | true
+expect 'what reads by a pipe has gone' "$(printf '9 %s\n' "${reading[@]}")" "$(cat gone)"
+expect 'what reads by a pipe has gone: a word is said of what was stored alone' 'sink fault' "$(grep -v '^rls: ' gone.err)"
 head -c 3000000 /dev/zero | tr '\0' x >long
 expect 'what reads a text by a pipe has stopped: nothing is said' '' "$(mkdir piped && cd piped && "$rls" new 7 0 1 >../out && "$rls" edit --text ../long >../out && { "$rls" text 2>&1 >&3 | cat; } 3> >(head -c 1 >/dev/null))"
 # shellcheck disable=SC2216
@@ -125,6 +134,7 @@ expect 'a carriage return in a file' yes "$(cd piped && "$rls" edit <../windows 
 for _ in $(seq 300); do printf 'i 0 x\r\n'; done >windows
 # shellcheck disable=SC2002
 expect 'a carriage return in a long script' yes "$(cd piped && cat ../windows | "$rls" edit >../out 2>../err; says 'lines of the script end with a carriage return')"
+expect 'a carriage return at the very end' yes "$(cd piped && printf 'i 0 a\r' | "$rls" edit >../out 2>../err; says 'lines of the script end with a carriage return')"
 expect 'a carriage return that is spelled' '' "$(cd piped && printf 'i 0 a\\r\n' | quiet "$rls" edit)"
 mkdir windows.d
 printf '\357\273\277one\r\ntwo\r\n' >windows

@@ -38,6 +38,7 @@ expect 'a check with lines that went through Windows' 0 "$(cd x1 && status_of "$
 echo 'i 0 x' >script
 expect 'a check with another file' 4 "$(cd x1 && status_of "$rls" check ../script)"
 expect 'a check with no file' 8 "$(cd x1 && status_of "$rls" check ../nowhere)"
+expect 'a check that can not be printed' 9 "$(cd x1 && "$rls" check >/dev/full 2>../err; echo $?)"
 expect 'check without a replica' 2 "$(cd nothing && status_of "$rls" check)"
 
 # --- Numbers that nobody uses.
@@ -109,9 +110,13 @@ expect 'the head of what is no message' 4 "$(echo hello | status_of "$rls" head)
 expect 'the head of what is no message: what it means' yes "$(says 'this is no message')"
 expect 'the head of nothing' 4 "$(status_of "$rls" head </dev/null)"
 expect 'the head of a message that was cut off' 4 "$(head -c 28 answer | status_of "$rls" head)"
-printf 'RLSM\011%0300d' 0 >newer
-expect 'the head of a newer message' 4 "$(status_of "$rls" head <newer)"
-expect 'the head of a newer message: what it means' yes "$(says 'a newer program')"
+for form in 4 9 255; do
+  printf 'RLSM%b%0300d' "\\0$(printf %o $form)" 0 >newer
+  expect "the head of a newer message, form $form" 4 "$(status_of "$rls" head <newer)"
+  expect "the head of a newer message, form $form: what it means" yes "$(says 'a newer program')"
+done
+expect 'the head of a message of no member' 4 "$(printf 'RLSM\3\0\0\0\0\0\0\0\7\0\0\0\2\0\0\0\2\0\0\0\0\0\0\0\0\0\0\0\0' | status_of "$rls" head)"
+expect 'the head of a message that can not be printed' 9 "$("$rls" head <answer >/dev/full 2>err; echo $?)"
 expect 'the head of a file' 4 "$(cat old/replica.rls old/replica.0 2>/dev/null | status_of "$rls" head)"
 
 # --- A number that two replicas use.

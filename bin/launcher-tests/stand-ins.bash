@@ -33,6 +33,9 @@ mkdir moment
 expect 'a file for a moment that stays' 0 "$(export TMPDIR=$room/moment; tools with rm 'exit 1' status_of many_lines)"
 expect 'a file for a moment that stays: it is said' yes "$(says 'has what was read here, and can.t be removed')"
 expect 'a file for a moment that stays: which' "$(sed -n 's/^rls: \(.*\) has what was read here.*/\1/p' err)" "$(echo "$room"/moment/*)"
+rm -f moment/*
+# shellcheck disable=SC2002
+expect 'a long script and a message leave no file for a moment' '0 0 ' "$(TMPDIR=$room/moment tools status_of many_lines | tr '\n' ' '; cat m1 | TMPDIR=$room/moment tools status_of "$rls" take | tr '\n' ' '; ls moment)"
 rm -rf tools && cp -r ben tools
 (cd ada && for k in 1 2 3; do echo "i 0 $k"; done | "$rls" edit >/dev/null && "$rls" send 1 >../m3)
 # shellcheck disable=SC2002

@@ -54,6 +54,10 @@ for answer in 'yes|status 0|2 0 0' 'no|status 71|1 0 0' 'Yes|status 71|1 0 0' '|
   expect "leave on a terminal, answered by '$word': what is done" "$counts" "$(left)"
   [ "$word" = yes ] || expect "leave on a terminal, answered by '$word': it is said" yes "$(said 'nothing was done')"
 done
+# shellcheck disable=SC2016
+typing '' sh -c '"$1" leave 2>../asked' sh "$rls"
+expect 'leave where errors go to a file: nobody is asked' 'status 0 2 0 0' "$(ended) $(left)"
+expect 'leave where errors go to a file: nothing is said' '' "$(cat asked)"
 for answer in 'yes|status 0|1 0 1' 'no|status 71|1 0 0'; do
   IFS='|' read -r word status counts <<<"$answer"
   typing "$word\\n" "$rls" retire 2

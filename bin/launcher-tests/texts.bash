@@ -23,6 +23,11 @@ cp -r t0 t2
 echo ' and mine' >>notes
 expect 'a file that is older than what came' yes "$(cd t0 && "$rls" edit --text ../notes >../out 2>../err; says 'operations taken here since the last `rls text`: 1')"
 expect 'a file that is older than what came: it is said once' '' "$(cd t0 && echo mine >../notes && quiet "$rls" edit --text ../notes)"
+# What was taken twice, and a text that could not be printed in between.
+mkdir t3 && (cd t3 && "$rls" new 7 0 2 >../out && "$rls" take <../more >../out && "$rls" text >../notes)
+for k in 1 2; do (cd t1 && echo 'i 0 more' | "$rls" edit >../out && "$rls" send 0 >../later && cd ../t3 && "$rls" take <../later >../out); done
+expect 'a text that could not be printed' 9 "$(cd t3 && "$rls" text >/dev/full 2>../err; echo $?)"
+expect 'what was taken twice' yes "$(cd t3 && echo mine >../notes && "$rls" edit --text ../notes >../out 2>../err; says 'operations taken here since the last `rls text`: 2')"
 expect 'a file that has what came' '' "$(cd t2 && "$rls" text >../notes && echo ' and mine' >../notes && quiet "$rls" edit --text ../notes)"
 expect 'a file that has what came, once more' '' "$(cd t2 && "$rls" take <../more >/dev/null && echo yours >../notes && quiet "$rls" edit --text ../notes)"
 
