@@ -38,18 +38,18 @@ export async function sizeOf(file) {
 
 /**
  * Writes a file so that whoever reads it sees the old one or the new one. It is made under a name that nobody can know before, and a link at
- * its own name is replaced, and not written through.
+ * its own name is replaced, and not written through. What can't be written or replaced is an RlsError, and nothing of it is left.
  */
 export async function replace(file, data) {
   const made = path.join(path.dirname(file), `.new-${randomBytes(16).toString('hex')}`);
   const handle = await fs.open(made, 'wx');
   try {
-    await handle.writeFile(data);
-    await handle.sync();
-  } finally {
-    await handle.close();
-  }
-  try {
+    try {
+      await handle.writeFile(data);
+      await handle.sync();
+    } finally {
+      await handle.close();
+    }
     await fs.rename(made, file);
   } catch (error) {
     await fs.unlink(made);

@@ -1,4 +1,4 @@
-// Tests of texts, changes and sessions, and those of test-mailbox.js: `node --test test.js` in this folder.
+// Tests of texts, changes and sessions, and those of test-files.js and test-mailbox.js: `node --test test.js` in this folder.
 import assert from 'node:assert/strict';
 import { execFileSync, spawn } from 'node:child_process';
 import fs from 'node:fs';
@@ -7,6 +7,7 @@ import { test } from 'node:test';
 import { changesOf, CHARACTERS } from './changes.js';
 import { applied, compared, crossed, placeAfter, Refused, RlsError, Session, Text } from './rls.js';
 import { exchange, folders, opened, pick, random, rls, room, stored, type, version } from './room.js';
+import './test-files.js';
 import './test-mailbox.js';
 
 test('places in units and in characters', () => {
