@@ -8,7 +8,7 @@ what it hasn't written is written by no later one, as on Linux."""
 import itertools
 import os
 from commands import HELLO_1, LEFT
-from forms import FRESH, HELLO, HELLO_MESSAGE, file4, fresh, run, text, typed
+from forms import FRESH, HELLO, HELLO_2, HELLO_3, HELLO_MESSAGE, JOURNAL, file4, fresh, run, text, typed
 from room import files_of, kept, kept_in
 
 
@@ -182,9 +182,11 @@ def sole(number, used, size):
 
 
 SMALL, BIG = sole(1, 16, 16), sole(1, 300000, 300000)
+# What the oldest form becomes: `hello` of a sole member.
+JOURNAL_4 = file4(7, 1, 0, (1,), [], [[(1, 0, 5)]], [run(typed(0, 1, 0), 5) + text(b"hello")])
 TEXTS = {FRESH: (0, b"", b""), fresh(1): (0, b"", b""), HELLO: (0, b"hello", b""), HELLO_1: (0, b"hello", b""), LEFT: (0, b"hello", b""),
          SMALL: (0, b"abcdefgh" * 2, b""), BIG: (0, b"abcdefgh" * 37500, b""), sole(2, 300000, 16): (0, b"abcdefgh" * 2, b""),
-         sole(2, 300000, 300000): (0, b"abcdefgh" * 37500, b"")}
+         sole(2, 300000, 300000): (0, b"abcdefgh" * 37500, b""), **{content: (0, b"hello", b"") for content in (HELLO_2, HELLO_3, JOURNAL, JOURNAL_4)}}
 
 # A name, the kind of folder, the files at first, the words and the input.
 SLOT_STORES = [
@@ -200,6 +202,9 @@ SLOT_STORES = [
     ("session", FRESH, {}, ["session"], b"i 0 hello\nt\n"),
     ("shorter", BIG, {}, ["edit"], b"d 16 299984\n"),
     ("longer", SMALL, {}, ["edit"], b"i 16 " + b"abcdefgh" * 37498 + b"\n"),
+    ("a file of form 1 becomes one of form 4", JOURNAL, {}, ["edit"], b""),
+    ("a file of form 2 becomes one of form 4", HELLO_2, {}, ["edit"], b""),
+    ("a file of form 3 becomes one of form 4", HELLO_3, {}, ["edit"], b""),
 ]
 FILE_STORES = [(name, content, {}, words, given) for name, content, _, words, given in SLOT_STORES if content is not None and "slot" not in name] + [
     ("edit over what was left over", FRESH, {"replica.rls.new": b"z" * 500}, ["edit"], b"i 0 hello\n")]
