@@ -35,6 +35,13 @@ for byte in 253 254; do
   expect "another group, with bytes $byte" 4 "$(takes small $((byte * 16843009)) $((byte * 16843008 + 7)) 2 1 301 0)"
   expect "another group, with bytes $byte: nothing is noted" no "$([ -e taking/replica.stale ] || echo no)"
 done
+# A gate that a stop has torn may hold any byte: an even one names slot 0, and an odd one slot 1.
+for byte in 2 3 127 128 255; do
+  rm -rf torn && cp -r small torn && cp torn/replica.1 torn/stored
+  cp torn/stored "torn/replica.$((byte % 2))" && printf '0' >"torn/replica.$((1 - byte % 2))" && printf %b "\\0$(printf %o $byte)" >torn/replica.gate
+  expect "a gate with byte $byte: it knows as many" '0 x' "$(takes torn 0 7 2 1 1 0 | tr '\n' ' '; cd taking && "$rls" text)"
+  expect "a gate with byte $byte: it knows more" 71 "$(takes torn 0 7 2 1 2 0)"
+done
 # The most members; and a file of the oldest form, which has no counts.
 mkdir most && (cd most && "$rls" new 7 63 64 >../out && echo 'i 0 x' | "$rls" edit >../out)
 mapfile -t others < <(for _ in $(seq 63); do echo 0; done)
@@ -44,6 +51,9 @@ mkdir oldest && { printf 'RLSF\1' && u32 0 7 2 0 1 && printf '\0' && u32 0 1 0 0
 expect 'a file of the oldest form: its text' hello "$(cd oldest && "$rls" text)"
 expect 'a file of the oldest form: it knows as many' 0 "$(takes oldest 0 7 2 1 1 0)"
 expect 'a file of the oldest form: it knows more' 71 "$(takes oldest 0 7 2 1 2 0)"
+head_of 0 7 2 1 1 5 | head -c -1 >cut.off
+expect 'a message that was cut off' 4 "$(cd small && status_of "$rls" take <../cut.off)"
+expect 'a message that was cut off: no other one was lost' '' "$(grep 'was lost' err)"
 mkdir of300 && (cd of300 && "$rls" new 72623859790382856 1 2 >../out)
 expect 'what it knows of others is no matter' 0 "$(takes of300 $high $low 2 0 4294967295 0)"
 expect 'the own count is at the own place' 71 "$(takes of300 $high $low 2 0 0 1)"
