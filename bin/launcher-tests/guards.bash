@@ -76,6 +76,7 @@ done
 expect 'in the name of another' '71 71' "$(forge 0 9) $(edits)"
 expect 'in the name of another: the way out, by a session' 0 "$(cd victim && echo q | RLS_FORCE=1 status_of "$rls" session)"
 expect 'in the name of another: the way out is for good' '71 0' "$(forge 0 10) $(edits)"
+expect 'in the name of the first one again' '71 0' "$(forge 2 11) $(edits)"
 expect 'a command that reads says nothing of it' '' "$(cd victim && quiet "$rls" text)"
 (cd victim && rm replica.[01g]* && "$rls" new 8 1 3 >../out && echo 'i 0 x' | "$rls" edit >../out)
 head_of 0 8 3 2 0 9 0 >forged
