@@ -49,6 +49,7 @@ expect 'half a replica' 71 "$(cd many && status_of "$rls" new 7 0 1)"
 expect 'half a replica: why' yes "$(says 'replica.gate is missing')"
 cp "$here/../examples/hello/replica.rls" third
 expect 'two replicas in a folder' 71 "$(cd third && status_of "$rls" text)"
+expect 'two replicas in a folder, forced' '0 hello' "$(cd third && RLS_FORCE=1 status_of "$rls" text | tr '\n' ' '; cat ../out)"
 
 # --- A `new` that was stopped in the middle.
 mkdir begun && cd begun || exit 1
