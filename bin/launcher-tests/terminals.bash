@@ -31,6 +31,8 @@ while time.time() < end:
         os.write(terminal, typed)
         typed = b""
 print(said.decode().replace("\r\n", "\n").rstrip("\n"))
+# (what still waits for words is hung up)
+os.close(terminal)
 status = os.waitpid(pid, 0)[1]
 print("status %d" % (os.WEXITSTATUS(status) if os.WIFEXITED(status) else 1000 + os.WTERMSIG(status)))
 E2
