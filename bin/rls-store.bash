@@ -114,7 +114,8 @@ sync_name_of() {
 # Makes the input a file that can be read twice. What was read of it already, as `printf %b` spells its end, comes first.
 hold_input() {
   local pos file kept=1
-  if [ $# = 0 ] && [ -f /dev/stdin ] && [ -r /dev/stdin ] && read -r _ pos </proc/self/fdinfo/0 && [ "$pos" = 0 ]; then return 0; fi
+  # (as descriptor 0 the file that is read here would tell its own place)
+  if [ $# = 0 ] && [ -f /dev/stdin ] && [ -r /dev/stdin ] && read -r -u 8 _ pos 8</proc/self/fdinfo/0 && [ "$pos" = 0 ]; then return 0; fi
   file=$(mktemp) || return 1
   # One byte more than a message or a script may have, at least. If not all of it can be kept, nothing of it may be performed.
   if ! { printf '%s%b' "${1-}" "${2-}" && head -c 67108865; } >"$file" || ! exec <"$file"; then kept=0; fi

@@ -37,6 +37,7 @@ expect 'no message is for the program to say' 4 "$(cd third && echo hello | stat
 expect 'a message cut short' 4 "$(cd third && head -c 30 ../m2 | status_of "$rls" take)"
 expect 'an empty message' 4 "$(cd third && status_of "$rls" take </dev/null)"
 expect 'a message behind other input' 0 "$(cd ben && { echo x; cat ../m1; } >../both && { read -r _; status_of "$rls" take; } <../both)"
+expect 'a message behind other input is looked at' 71 "$(cd again && { echo x; cat ../m2; } >../both && { read -r _; status_of "$rls" take; } <../both)"
 
 mkdir many
 (cd many && "$rls" new 7 0 1 >/dev/null)

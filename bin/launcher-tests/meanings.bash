@@ -134,6 +134,8 @@ expect 'a carriage return in a file' yes "$(cd piped && "$rls" edit <../windows 
 for _ in $(seq 300); do printf 'i 0 x\r\n'; done >windows
 # shellcheck disable=SC2002
 expect 'a carriage return in a long script' yes "$(cd piped && cat ../windows | "$rls" edit >../out 2>../err; says 'lines of the script end with a carriage return')"
+# shellcheck disable=SC2002
+expect 'no carriage return in a long script' '' "$(cd piped && tr -d '\r' <../windows >../unix && cat ../unix | quiet "$rls" edit; quiet "$rls" edit <../unix)"
 expect 'a carriage return at the very end' yes "$(cd piped && printf 'i 0 a\r' | "$rls" edit >../out 2>../err; says 'lines of the script end with a carriage return')"
 expect 'a carriage return that is spelled' '' "$(cd piped && printf 'i 0 a\\r\n' | quiet "$rls" edit)"
 mkdir windows.d

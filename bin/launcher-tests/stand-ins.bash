@@ -44,6 +44,7 @@ for answer in 'exit 71' 'exit 1' 'kill -9 $$' '[ "$1" != -n ] || exit 1; kill -9
   expect "no lock: $answer" 71 "$(echo 'i 0 x' | tools with flock "$answer" status_of "$rls" edit)"
   expect "no lock, forced: $answer" 0 "$(echo 'i 0 x' | RLS_FORCE=1 tools with flock "$answer" status_of "$rls" edit)"
 done
+expect 'no lock: nobody waits' no "$(echo 'i 0 x' | tools with flock 'exit 71' status_of "$rls" edit >status; says 'waiting for it' | head -c 2)"
 expect 'no lock: nothing else was done' xxxxonetwo "$(tools "$rls" text)"
 if command -v flock >/dev/null; then
   (cd tools && exec flock . sleep 60) &
