@@ -65,6 +65,14 @@ for _ in 1 2 3; do pass 0 1 && pass 1 0; done
 expect 'then nothing is kept' 'unstable 0' "$(cd y0 && "$rls" stat | grep unstable)"
 expect 'nor at the other member' 'unstable 0' "$(cd y1 && "$rls" stat | grep unstable)"
 expect 'a number that only took, forced' 71 "$(cd y0 && RLS_FORCE=1 status_of "$rls" retire 1)"
+# The last member looks at lower numbers: one that nobody uses, and one that has taken only what the last member wrote.
+mkdir z0 z2 && for k in 0 2; do (cd z$k && "$rls" new 7 $k 4 >/dev/null); done
+(cd z2 && echo 'i 0 text' | "$rls" edit >/dev/null && "$rls" send 0 >../z2-0)
+(cd z0 && "$rls" take <../z2-0 >/dev/null && "$rls" send 2 >../z0-2)
+(cd z2 && "$rls" take <../z0-2 >/dev/null)
+expect 'a lower number that only took' 71 "$(cd z2 && status_of "$rls" retire 0)"
+expect 'a lower number that only took: why' yes "$(says 'number 0 is in use: a message of it was taken here')"
+expect 'a lower number that nobody uses' 'retired 1' "$(cd z2 && "$rls" retire 1)"
 mkdir journal && cp "$here/../examples/hello/replica.rls" journal
 expect 'a file of the oldest form' 71 "$(cd journal && status_of "$rls" retire 1)"
 
