@@ -202,6 +202,7 @@ function align(old, olds, new, news, by_anchors,  numbers, is_old, k, i, m, j, n
     while (i < m && j < n) {
       steps = spent < 300000 ? 128 : spent < 1500000 ? 16 : 4
       if (search(i, m, j, n, steps)) { keep_runs(1); break }
+      is_cut = 1
       for (first = 1; first <= runs && rc[first] < 3; first++);           # what it ends with may be chance
       if (first > runs || 2 * (rx[first] + ry[first] + 2 * rc[first] - i - j) <= rx[1] + ry[1] + 2 * rc[1] - i - j) first = 1
       keep_runs(first)
@@ -374,4 +375,5 @@ END {
     at_old += length(old[i++]); at_new += length(new[j++])
   }
   stays(length(OLD), length(NEW), 0)
+  if (is_cut) print "rls: the two texts differ so much that parts were compared by cheaper means: what others wrote there meanwhile may stand beside its place." | "cat 1>&2"
 }

@@ -3,5 +3,6 @@ import fs from 'node:fs';
 import { Session } from '../node/rls.js';
 
 const session = await Session.open(process.argv[2]);
-await session.setText(fs.readFileSync(process.argv[3], 'utf8'));
+const { isCut } = await session.setText(fs.readFileSync(process.argv[3], 'utf8'));
+if (isCut) console.error('parts were compared by cheaper means');
 await session.close();

@@ -6,4 +6,5 @@ sys.path.insert(0, os.path.join(os.path.dirname(os.path.abspath(__file__)), ".."
 from rls import Session  # noqa: E402
 
 with Session(sys.argv[1]) as session, open(sys.argv[2], encoding="utf-8", newline="") as file:
-    session.set_text(file.read())
+    if session.set_text(file.read()):
+        print("parts were compared by cheaper means", file=sys.stderr)

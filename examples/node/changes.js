@@ -20,17 +20,21 @@ export const CHARACTERS = {
 export const UNITS = { size: (text) => text.length, end: (_, from, count) => from + count };
 
 /** The changes that make one string of another, in characters, from the last to the first, so that no place moves (examples/COMPARE.md). */
-export function changesOf(old, now) {
+export const changesOf = (old, now) => changesTold(old, now).changes;
+
+/** The same as `changes`, and in `isCut` whether some part was compared by cheaper means: then what others wrote in it may stand beside its place. */
+export function changesTold(old, now) {
   const found = [];
   let [unit, before] = [0, 0];
-  for (const { at, count, text } of compared(old, now).found) {
+  const { found: replacements, isCut } = compared(old, now);
+  for (const { at, count, text } of replacements) {
     before += sizeOf(old.slice(unit, at));
     const gone = sizeOf(old.slice(at, at + count));
     found.push({ at: before, count: gone, text });
     before += gone;
     unit = at + count;
   }
-  return found.reverse();
+  return { changes: found.reverse(), isCut };
 }
 
 // --- What a list of changes does to a text, as parts of it from its beginning on: so many characters stay, or go, or a text comes. What

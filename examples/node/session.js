@@ -2,7 +2,7 @@
 import { execFile } from 'node:child_process';
 import { EventEmitter } from 'node:events';
 import { promisify } from 'node:util';
-import { changesOf, CHARACTERS, crossed, placeAfter } from './changes.js';
+import { changesOf, changesTold, CHARACTERS, crossed, placeAfter } from './changes.js';
 import { changeOf, validText, editsOf, lineOf } from './edits.js';
 import { Refused, RlsError } from './errors.js';
 import { Program } from './program.js';
@@ -236,13 +236,19 @@ export class Session extends EventEmitter {
     return this.replace(at, count, '');
   }
 
-  /** Makes the text this one, and where it stays as it is, what others write there keeps its place (examples/COMPARE.md). */
+  /**
+   * Makes the text this one, and where it stays as it is, what others write there keeps its place (examples/COMPARE.md). It answers
+   * `{ isCut }`: whether some part was so different that it was compared by cheaper means. Then what others wrote in it meanwhile may stand
+   * beside its place.
+   */
   async setText(string) {
     if (this.#failure) throw this.#failure;
-    const edits = changesOf(this.text, validText(string)).flatMap((change) => editsOf(change, this.#version));
+    const { changes, isCut } = changesTold(this.text, validText(string));
+    const edits = changes.flatMap((change) => editsOf(change, this.#version));
     this.#text = new Text(string);
     this.#noteTyped(false);
     if (edits.length > 0) await this.#asked({ edits });
+    return { isCut };
   }
 
   // --- When to store

@@ -132,6 +132,9 @@ test('a folder that is in use', async (t) => {
 
 test('a long text', async (t) => {
   const [a] = await opened(t, 1);
+  const [old, now] = [1, 2].map(() => Array.from({ length: 900 }, () => pick(['a', 'b'])).join(' '));
+  assert.deepEqual(await a.setText(old), { isCut: false });
+  assert.deepEqual(await a.setText(now), { isCut: true });
   await a.setText('x\u{1F600}'.repeat(700_000));
   assert.equal(a.text.length, 2_100_000);
   await a.setText('y');

@@ -7,7 +7,7 @@ from contextlib import contextmanager
 from typing import Any, Iterator, Optional, Sequence, Tuple
 
 from . import limits
-from .edits import deletion, insertion, no_surrogates, replacement, script
+from .edits import changes_told, deletion, insertion, lines_of, no_surrogates, replacement
 from .errors import Refused, RlsError
 from .folders import locked
 from .program import told
@@ -39,9 +39,12 @@ class Editing:
         """Puts a text in place of so many characters."""
         self.edit(replacement(at, count, no_surrogates(text)))
 
-    def set_text(self, new: str) -> None:
-        """Makes the least edits after which the text is this one."""
-        self.edit(script(self.text(), no_surrogates(new)))
+    def set_text(self, new: str) -> bool:
+        """Makes the least edits after which the text is this one. Whether some part was so different that it was compared by cheaper means: then
+        what others wrote in it meanwhile may stand beside its place (examples/COMPARE.md)."""
+        found, is_cut = changes_told(self.text(), no_surrogates(new))
+        self.edit(lines_of(found))
+        return is_cut
 
     def rename(self) -> None:
         self.edit(["r"])

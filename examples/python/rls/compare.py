@@ -1,7 +1,8 @@
 """Where two texts differ, so that what others write in between keeps its place: examples/COMPARE.md."""
 import re
 from bisect import bisect_left
-from typing import Dict, List, NamedTuple, Sequence, Tuple
+from collections import defaultdict
+from typing import DefaultDict, List, NamedTuple, Sequence, Tuple
 
 STEPS = 128                 # members that go or come, after which it looks back and goes on from where it is
 WORK = (300_000, 1_500_000)   # steps of the search, after which STEPS is 16, and then 4
@@ -10,10 +11,12 @@ SPACES = "\t\n\v\f\r "
 LINE = re.compile(r"[^\n]*\n|[^\n]+")
 WORD = re.compile(r"[^\t-\r ]+")
 SPACE = re.compile(r"[\t-\r ]")
+PIECE = re.compile(r"[\t-\r ]+|[^\t-\r ]+")
 LETTER = "0-9A-Za-z_\u00aa\u00b5\u00ba\u00c0-\u00d6\u00d8-\u00f6\u00f8-\u0dff\u10a0-\u1fff"
 MARK = "\u0300-\u036f\u1ab0-\u1aff\u1dc0-\u1dff\u200c\u200d\u20d0-\u20ff\ufe00-\ufe0f\ufe20-\ufe2f\U0001f3fb-\U0001f3ff"
 TOKEN = re.compile(f"[{LETTER}][{LETTER}{MARK}]*|[^\t-\r ](?:[{MARK}]|(?<=\u200d)[^\t-\r ])*")
 JOINED = re.compile(f"[{MARK}]")
+START = re.Match.start
 Run = Tuple[int, int, int]
 
 
@@ -55,35 +58,40 @@ def _rising(pairs: List[Tuple[int, int]]) -> List[Tuple[int, int]]:
 
 def _fours(a: Sequence[int], b: Sequence[int]) -> List[Sequence[int]]:
     """Four members in a row of each list as one number, from each place on where there are four."""
-    numbers: Dict[Tuple[int, ...], int] = {}
-    return [[numbers.setdefault(key, len(numbers)) for key in zip(s, s[1:], s[2:], s[3:])] for s in (a, b)]
+    numbers: DefaultDict[Tuple[int, ...], int] = defaultdict()
+    numbers.default_factory = numbers.__len__
+    return [list(map(numbers.__getitem__, zip(s, s[1:], s[2:], s[3:]))) for s in (a, b)]
 
 
 def _anchors(a: Sequence[int], b: Sequence[int], i: int, m: int, j: int, n: int) -> List[Tuple[int, int]]:
     """Where members are equal that are once in each."""
-    sides: List[Dict[int, int]] = []
-    for s, low, high in ((a, i, m), (b, j, n)):
-        once: Dict[int, int] = {}
-        for k, key in enumerate(s[low:max(low, high)], low):
-            once[key] = -1 if key in once else k
-        sides.append(once)
-    mine, other = sides
-    return _rising([(k, other[key]) for key, k in mine.items() if k >= 0 and other.get(key, -1) >= 0])
+    if i >= m or j >= n:
+        return []
+    mine, other = a[i:m], b[j:n]
+    last_mine, last_other = dict(zip(mine, range(i, m))), dict(zip(other, range(j, n)))
+    both = last_mine.keys() & last_other.keys()
+    if not both:
+        return []
+    first_mine, first_other = dict(zip(reversed(mine), range(m - 1, i - 1, -1))), dict(zip(reversed(other), range(n - 1, j - 1, -1)))
+    pairs = [(last_mine[key], last_other[key]) for key in both if first_mine[key] == last_mine[key] and first_other[key] == last_other[key]]
+    return _rising(sorted(pairs))
 
 
 def _search(a: Sequence[int], b: Sequence[int], i: int, m: int, j: int, n: int, steps: int, work: _Work) -> Tuple[bool, List[Run]]:
     """The least members that go and come, by Myers' greedy search; if it takes more than so many steps, the way that got furthest."""
-    m, n, off = m - i, n - j, steps + 1
-    far = [0] * (2 * steps + 3)
+    shift, off = i - j, steps + 1                       # on diagonal k, place x of the one is place x - k - shift of the other
+    far = [i] * (2 * steps + 3)
     trace: List[List[int]] = []
     x = y = d = 0
     done = False
     for d in range(steps + 1):
         trace.append(far[off - d - 1:off + d + 2])
         for k in range(-d, d + 1, 2):
-            x = far[off + k + 1] if k == -d or (k != d and far[off + k - 1] < far[off + k + 1]) else far[off + k - 1] + 1
-            y = x - k
-            while x < m and y < n and a[i + x] == b[j + y]:
+            x, come = far[off + k - 1] + 1, far[off + k + 1]
+            if k == -d or (k != d and x <= come):
+                x = come
+            y = x - k - shift
+            while x < m and y < n and a[x] == b[y]:
                 x += 1
                 y += 1
             far[off + k] = x
@@ -96,20 +104,21 @@ def _search(a: Sequence[int], b: Sequence[int], i: int, m: int, j: int, n: int, 
     if not done:
         best = -1
         for k in range(-steps, steps + 1, 2):
-            if far[off + k] <= m and far[off + k] - k <= n and 2 * far[off + k] - k > best:
-                best, x, y = 2 * far[off + k] - k, far[off + k], far[off + k] - k
+            p = far[off + k]
+            if p <= m and p - k - shift <= n and 2 * (p - i) - k > best:
+                best, x, y = 2 * (p - i) - k, p, p - k - shift
     runs: List[Run] = []
     while d > 0:
-        was, k = trace[d], x - y                        # was[d + 1 + k] is diagonal k
+        was, k = trace[d], x - y - shift                # was[d + 1 + k] is diagonal k
         comes = k == -d or (k != d and was[d + k] < was[d + k + 2])
         p = was[d + k + 2] if comes else was[d + k]
         start = p if comes else p + 1
         if x > start:
-            runs.append((i + start, j + start - k, x - start))
-        x, y = p, p - (k + 1 if comes else k - 1)
+            runs.append((start, start - k - shift, x - start))
+        x, y = p, p - shift - (k + 1 if comes else k - 1)
         d -= 1
-    if x > 0:
-        runs.append((i, j, x))
+    if x > i:
+        runs.append((i, j, x - i))
     return done, runs[::-1]
 
 
@@ -258,6 +267,13 @@ class _Comparison:
 
     def in_proportion(self, a: int, old: List[str], b: int, new: List[str], parts: int, put) -> None:
         """Parts of both lists, one with one."""
+        if parts == len(old) == len(new):
+            for x, y in zip(old, new):
+                m, n = a + len(x), b + len(y)
+                if x != y:
+                    put(a, m, b, n)
+                a, b = m, n
+            return
         i = j = 0
         for k in range(1, parts + 1):
             p, q = k * len(old) // parts, k * len(new) // parts
@@ -266,7 +282,7 @@ class _Comparison:
             i, j, a, b = p, q, m, n
 
     def pair_words(self, a: int, m: int, b: int, n: int) -> None:
-        old, new = re.findall(r"[\t-\r ]+|[^\t-\r ]+", self.old[a:m]), re.findall(r"[\t-\r ]+|[^\t-\r ]+", self.new[b:n])
+        old, new = PIECE.findall(self.old, a, m), PIECE.findall(self.new, b, n)
         if len(old) == len(new):
             parts = len(old)
         else:
@@ -324,16 +340,14 @@ class _Comparison:
     def by_words(self, a: int, m: int, b: int, n: int) -> None:
         if TOKEN.fullmatch(self.old, a, m) and TOKEN.fullmatch(self.new, b, n):
             return
-        sides = [list(TOKEN.finditer(s, x, y)) for s, x, y in ((self.old, a, m), (self.new, b, n))]
-        if not sides[0] or not sides[1]:
+        old, new = TOKEN.findall(self.old, a, m), TOKEN.findall(self.new, b, n)
+        pairs = _align(old, new, False, self.work)
+        same = sum(len(old[i]) for i, _ in pairs)
+        if not pairs or 5 * same < min(sum(map(len, old)), sum(map(len, new))):
             return
-        texts = [[x.group() for x in side] for side in sides]
-        pairs = _align(*texts, False, self.work)
-        same = sum(len(texts[0][i]) for i, _ in pairs)
-        if 5 * same < min(sum(map(len, texts[0])), sum(map(len, texts[1]))):
-            return
+        starts = [list(map(START, TOKEN.finditer(s, x, y))) for s, x, y in ((self.old, a, m), (self.new, b, n))]
         for i, j in pairs:
-            self.stays(sides[0][i].start(), sides[1][j].start(), len(texts[0][i]))
+            self.stays(starts[0][i], starts[1][j], len(old[i]))
 
     def changed_lines(self, a: int, old: List[str], b: int, new: List[str]) -> None:
         if len(old) != len(new) or not is_line_by_line(old, new):

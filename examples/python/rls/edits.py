@@ -1,9 +1,9 @@
 """Edits as lines of the program, and the least edits that make one text of another."""
 import re
-from typing import Iterable, List, NamedTuple
+from typing import Iterable, List, NamedTuple, Tuple
 
 from . import limits
-from .compare import replacements
+from .compare import compared, replacements
 
 
 class Change(NamedTuple):
@@ -57,9 +57,20 @@ def replacement(at: int, count: int, text: str) -> List[str]:
     return insertion(at + count, text) + deletion(at, count)
 
 
+def changes_told(old: str, new: str) -> Tuple[List[Change], bool]:
+    """The same, and whether some part was compared by cheaper means: then what others wrote in it meanwhile may stand beside its place."""
+    found, is_cut = compared(old, new)
+    return [Change(*x) for x in reversed(found)], is_cut
+
+
 def script(old: str, new: str) -> List[str]:
     """The lines that make one text of another."""
-    return [line for change in changes(old, new) for line in replacement(*change)]
+    return lines_of(changes(old, new))
+
+
+def lines_of(found: Iterable[Change]) -> List[str]:
+    """The lines that make these changes, one after another."""
+    return [line for change in found for line in replacement(*change)]
 
 
 def no_surrogates(text: str) -> str:

@@ -7,7 +7,7 @@ from typing import List, NoReturn, Optional, Sequence, Tuple, Type
 
 from . import limits
 from .commands import Commands, Editing
-from .edits import Change, change_of, changes, escaped, no_surrogates
+from .edits import Change, change_of, changes_told, escaped, no_surrogates
 from .errors import Refused, RlsError
 from .folders import locked
 from .reports import Groups, Head, Report, Stat, stat_of
@@ -150,10 +150,12 @@ class Session(Editing):
             self._edited()
         self._note_typed(count > 0 and not text)
 
-    def set_text(self, new: str) -> None:
-        for change in changes(self.text(), no_surrogates(new)):
+    def set_text(self, new: str) -> bool:
+        found, is_cut = changes_told(self.text(), no_surrogates(new))
+        for change in found:
             self.replace(*change)
             self._note_typed(False)
+        return is_cut
 
     def _note_typed(self, is_taken: bool) -> None:
         now = time.monotonic()
