@@ -16,10 +16,25 @@ const MOST_NAME = 40; // characters of a name beside a cursor
 const shown = (name) =>
   [...name.replace(/[\p{C}\p{Zl}\p{Zp}]/gu, '')].slice(0, MOST_NAME).join('').trim();
 
-/** A mailbox of one member. What shows that another replica writes with its number is a UsedTwice, from every call, until its file is gone. */
+/** The members in whose name, as somebody has told the launcher by RLS_FORCE=1, what they count of this member's operations isn't so. */
+const doubted = async (folder, own) => {
+  const lines = (await fs.readFile(path.join(folder, 'replica.doubted'), 'latin1').catch(() => '')).split('\n');
+  const start = `${own.group}-${own.members}-${own.me} `;
+  return new Set(lines.filter((line) => line.startsWith(start)).map((line) => Number(line.slice(start.length))));
+};
+
+/**
+ * A mailbox of one member. What shows that another replica writes with its number is a UsedTwice, from every call, until its file is gone.
+ *
+ * A message that counts more of this member's operations than it has made isn't taken, and those of others are. As long as its file is there
+ * `send`, and so `sync`, rejects with a Stale: if this replica's files are old, what it sends would part the texts for ever. If somebody
+ * forged it, delete it; or tell the launcher to doubt that member, by RLS_FORCE=1 (docs/USE.md, "Rules").
+ */
 export class Mailbox {
   #taken = new Map();
   #sent = new Map();
+  #refused = new Map(); // messages whose heads aren't what their names say: each is told once
+  #ahead = new Map(); // what is said of each member whose message counts what wasn't made here
   #shownCursor = '';
   #quiet = ''; // what both folders were like in a round in which nothing came and nothing went
 
@@ -51,7 +66,7 @@ export class Mailbox {
 
   /**
    * Takes what is new. The answer is a list of `{ from, report }`, or `{ from, error }` for what couldn't be taken, which stops no other
-   * member's message. A Stale is thrown.
+   * member's message.
    */
   async receive(session) {
     await this.#look(session);
@@ -60,8 +75,16 @@ export class Mailbox {
       try {
         const message = await regular(this.path(from, this.head.me), MOST_MESSAGE);
         const mark = message && createHash('sha256').update(message).digest('hex');
-        if (!message || this.#taken.get(from) === mark) continue;
-        await this.#guard(session, from, message);
+        if (!message || this.#taken.get(from) === mark) {
+          this.#ahead.delete(from);
+          continue;
+        }
+        const fault = await this.#faultOf(session, from, message);
+        if (fault) {
+          if (this.#refused.get(from) !== mark) found.push({ from, error: new Refused(fault) });
+          this.#refused.set(from, mark);
+          continue;
+        }
         const report = await session.take(message);
         this.#taken.set(from, mark);
         found.push({ from, report });
@@ -73,18 +96,24 @@ export class Mailbox {
     return found;
   }
 
-  /** A message of this text that knows more of this member's operations than it has made is Stale. */
-  async #guard(session, from, message) {
+  /** Why the head of a message isn't what it has to be at this name; '' if it is, or if this is no head, which `take` says then. */
+  async #faultOf(session, from, message) {
+    this.#ahead.delete(from);
     let head;
     try {
       head = headOf(message);
     } catch {
-      return; // `take` says what is wrong with it.
+      return '';
     }
     const own = await session.head();
     const { me } = own;
-    if (head.group !== own.group || head.members !== own.members || head.accepted[me] <= own.accepted[me]) return;
-    throw new Stale(`member ${from} knows ${head.accepted[me]} operations of member ${me}, who has made ${own.accepted[me]}`);
+    const name = path.basename(this.path(from, me));
+    if (head.group !== own.group || head.members !== own.members) return `${name} is of another text; it stays where it is`;
+    if (head.me !== from) return `${name} says that it is of member ${head.me}; it stays where it is`;
+    if (head.accepted[me] <= own.accepted[me]) return '';
+    const line = `${name} counts ${head.accepted[me]} operations of member ${me}, who has made ${own.accepted[me]}`;
+    if (!(await doubted(session.folder, own)).has(from)) this.#ahead.set(from, line);
+    return line;
   }
 
   /**
@@ -123,13 +152,19 @@ export class Mailbox {
     return false;
   }
 
-  /** Stores, and writes what is new. The answer is a list of `{ to, error }` for what couldn't be written, which stops no other member's. */
+  /**
+   * Stores, and writes what is new. The answer is a list of `{ to, error }` for what couldn't be written, which stops no other member's. It
+   * rejects with a Stale while there is a message that counts more of this member's operations than it has made.
+   */
   async send(session) {
     return (await this.#send(session)).failed;
   }
 
   async #send(session) {
     await this.#look(session);
+    for (const line of this.#ahead.values()) {
+      throw new Stale(`${line}. The files in ${session.folder} are old, or the number is used twice: nothing is sent. Or somebody forged it: then delete it`);
+    }
     const failed = [];
     let count = 0;
     for (const to of this.#others()) {
@@ -153,12 +188,17 @@ export class Mailbox {
     return `${await timesOf(session.folder, ['replica.0', 'replica.1', 'replica.rls'])}\n\n${await timesOf(this.folder, await this.#names())}`;
   }
 
-  /** Takes what came, and sends what is new: `{ received, failed }`. Where nothing has changed, it looks at names and times alone. */
+  /**
+   * Takes what came, and sends what is new: `{ received, failed }`. Where nothing has changed, it looks at names and times alone. A Stale has
+   * what came in `received`: what others sent was taken.
+   */
   async sync(session) {
     const before = await this.#mark(session);
     if (!session.isUnsaved && before === this.#quiet) return { received: [], failed: [] };
     const received = await this.receive(session);
-    const { failed, count } = await this.#send(session);
+    const { failed, count } = await this.#send(session).catch((error) => {
+      throw Object.assign(error, { received });
+    });
     this.#quiet = received.length + failed.length + count === 0 ? before : '';
     return { received, failed };
   }

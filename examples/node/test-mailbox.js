@@ -83,6 +83,46 @@ test('files that were put back from a copy', async (t) => {
   await assert.rejects(box.sync(again), Stale);
 });
 
+test('heads that are not what the names of their files say', async (t) => {
+  const [a, b, c] = await opened(t, 3, 7);
+  const shared = path.join(path.dirname(a.folder), 'shared');
+  const boxes = [await Mailbox.open(shared, a), await Mailbox.open(shared, b)];
+  const forged = boxes[0].path(2, 0);
+  const cases = [[12, 9, /is of another text/], [16, 4, /is of another text/], [20, 1, /says that it is of member 1/], [24, 200, /counts 200 operations of member 0/]];
+  for (const [at, byte, told] of cases) {
+    const message = await c.message(0);
+    message[at] = byte;
+    fs.writeFileSync(forged, message);
+    await a.insert(0, 'a');
+    await b.insert(0, 'b');
+    await boxes[1].sync(b);
+    let found;
+    if (at === 24) {
+      await assert.rejects(boxes[0].sync(a), (error) => {
+        found = error.received;
+        return error instanceof Stale && told.test(error.message);
+      });
+    } else {
+      found = (await boxes[0].sync(a)).received;
+    }
+    assert.deepEqual(found.map(({ from }) => from), [1, 2]);
+    assert.match(found[1].error.line, told);
+    assert.deepEqual(await boxes[0].receive(a), []); // said once
+    assert.deepEqual(fs.readFileSync(forged), message);
+  }
+  assert.equal([...a.text].sort().join(''), 'aaaabbbb');
+  const { group, members } = await a.head();
+  fs.writeFileSync(path.join(a.folder, 'replica.doubted'), `${group}-${members}-0 2\n`);
+  await (await Mailbox.open(shared, a)).sync(a);
+  fs.rmSync(path.join(a.folder, 'replica.doubted'));
+  await a.insert(0, 'a');
+  await assert.rejects((await Mailbox.open(shared, a)).sync(a), Stale);
+  fs.rmSync(forged);
+  await boxes[0].sync(a);
+  await boxes[1].sync(b);
+  assert.equal(b.text, a.text);
+});
+
 test('cursors of others', async (t) => {
   if (version === 1) return t.skip('the program has the first version of the session');
   const [a, b] = await opened(t, 2, 5);

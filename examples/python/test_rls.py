@@ -72,6 +72,16 @@ class ByCommands(Room):
         a.set_text("")
         self.assertEqual(a.text(), "")
 
+    def test_what_is_compared_by_cheaper_means(self):
+        """Whoever replaces a text by one that has nothing but words of it, in another order, is told."""
+        r = random.Random(1)
+        old, new = [" ".join(r.choice("ab") for _ in range(900)) for _ in range(2)]
+        a = self.two()[0]
+        self.assertFalse(a.set_text(old))
+        self.assertTrue(a.set_text(new))
+        self.assertFalse(a.set_text(new + " c"))
+        self.assertEqual(a.text(), new + " c")
+
     def test_no_folder(self):
         for begin in (lambda: Commands(self.path("nowhere")).text(), lambda: Session(self.path("nowhere"))):
             with self.assertRaises(RlsError) as caught:
@@ -135,6 +145,49 @@ class ByCommands(Room):
         shutil.copytree(self.path("copy"), a.folder)
         with self.assertRaises(Stale):
             boxes[0].sync(a)
+
+    def test_forged_heads(self):
+        """A message whose head isn't what its name says is told once, and stays where it is. Those of others are taken. If it counts edits that
+        were not made here, nothing is sent until it is gone, or somebody has told the launcher to doubt that member."""
+        all_three = [Commands.new(self.path(f"m{k}"), 7, k, 3) for k in range(3)]
+        boxes = [Mailbox(self.path("shared"), x.head()) for x in all_three]
+        a, b, c = all_three
+        forged = boxes[2].path(2, 0)
+        for k, (at, byte, told, is_ahead) in enumerate([(12, 9, "is of another text", False), (16, 4, "is of another text", False),
+                                                        (20, 1, "says that it is of member 1", False), (24, 200, "counts 200 operations of member 0", True)]):
+            message = bytearray(c.message(0))
+            message[at] = byte
+            with open(forged, "wb") as f:
+                f.write(message)
+            a.insert(0, "a"), b.insert(0, "b")
+            boxes[1].sync(b)
+            if is_ahead:
+                with self.assertRaises(Stale) as raised:
+                    boxes[0].sync(a)
+                found = raised.exception.found
+                self.assertIn("7-2-0.rlsm counts 200", str(raised.exception))
+            else:
+                found, sent = boxes[0].sync(a)
+                self.assertEqual(sent, 2)
+            self.assertEqual([sender for sender, _ in found], [1, 2])
+            self.assertIn(told, found[1][1].line)
+            self.assertEqual(sorted(a.text()), sorted("ab" * (k + 1)))
+            self.assertEqual(boxes[0].receive(a), [])       # said once
+            with open(forged, "rb") as f:
+                self.assertEqual(f.read(), message)
+        with self.assertRaises(Stale):
+            boxes[0].sync(a)
+        with open(os.path.join(a.folder, "replica.doubted"), "w", encoding="ascii") as f:
+            f.write("7-3-0 1\n7-3-0 2\n")
+        self.assertEqual(Mailbox(self.path("shared"), a.head()).sync(a)[1], 2)
+        os.unlink(os.path.join(a.folder, "replica.doubted"))
+        a.insert(0, "a")
+        with self.assertRaises(Stale):
+            Mailbox(self.path("shared"), a.head()).sync(a)
+        os.unlink(forged)
+        self.assertEqual(boxes[0].sync(a)[1], 1)                # number 2, from which nothing came, has most of it already
+        boxes[1].sync(b)
+        self.assertEqual(b.text(), a.text())
 
     def test_older_folder(self):
         """A message is written again if the folder comes back as it was before, or empty."""

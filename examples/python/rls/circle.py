@@ -318,6 +318,8 @@ class Quiet(Mailbox):
         super().__init__(circle.shared, Head(group, circle.members, me, ()))
         self.circle = circle
 
+    goes_on = False             # nothing is taken either: a giver whose files are old mustn't acknowledge anything for a spare number
+
     # A circle sees a number that is used twice by its own looks (docs/SHARING.md, "What breaks it"): a spare number is its giver's first and
     # another machine's then, so no token of a folder belongs to it.
     def look(self, replica: Replica) -> None:

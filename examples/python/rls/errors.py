@@ -1,5 +1,5 @@
 """What a call may raise."""
-from typing import TYPE_CHECKING, Sequence
+from typing import TYPE_CHECKING, Sequence, Tuple
 
 if TYPE_CHECKING:
     from .reports import Head
@@ -26,7 +26,10 @@ class Refused(RlsError):
 
 class Stale(Exception):
     """Another member has more of this member's own operations than this member itself: its files were put back from a copy, made
-    again with a number that was used, or two members have one number. Going on would part the texts for ever, with status 0."""
+    again with a number that was used, or two members have one number. Going on would part the texts for ever, with status 0. `found` has what
+    became of the messages that came in the same round."""
+
+    found: "Sequence[Tuple[int, object]]" = ()
 
 
 class UsedTwice(Stale):

@@ -26,7 +26,13 @@ class Mailbox:
     receiver isn't known to have, so only the latest from each member to each other is kept: `GROUP-FROM-TO.rlsm`.  It may be
     replaced, lost, or come late or twice.
 
-    What shows that another replica writes with this number is UsedTwice, from every call, until its file is gone."""
+    What shows that another replica writes with this number is UsedTwice, from every call, until its file is gone.
+
+    A message that counts more of this member's operations than it has made isn't taken, and those of others are. As long as its file is there
+    `send`, and so `sync`, is Stale: if this replica's files are old, what it sends would part the texts for ever. If somebody forged it,
+    delete it; or tell the launcher to doubt that member, by RLS_FORCE=1 (docs/USE.md, "Rules")."""
+
+    goes_on = True              # whether what others sent is taken beside a message that counts what wasn't made here
 
     def __init__(self, folder: str, head: Head) -> None:
         self.folder, self.me, self.members = os.path.expanduser(folder), head.sender, head.members
@@ -34,6 +40,8 @@ class Mailbox:
         self.taken: Dict[int, bytes] = {}
         self.sent: Dict[int, bytes] = {}
         self.warned: Set[int] = set()
+        self.refused: Dict[int, bytes] = {}         # messages whose heads aren't what their names say: each is told once
+        self.ahead: Dict[int, str] = {}             # what is said of each member whose message counts what wasn't made here
         self.shown: Optional[str] = None
         os.makedirs(self.folder, exist_ok=True)
 
@@ -65,13 +73,19 @@ class Mailbox:
             except RlsError as e:
                 reports.append((sender, e))
                 continue
-            if message is None:
-                continue
-            mark = hashlib.sha256(message).digest()
-            if self.taken.get(sender) == mark:
+            mark = hashlib.sha256(message).digest() if message is not None else b""
+            if message is None or self.taken.get(sender) == mark:
+                self.ahead.pop(sender, None)
                 continue
             own = own or replica.head()
-            self._guard(sender, message, own)
+            fault = self._fault_of(sender, message, own, replica)
+            if fault:
+                if not self.goes_on:
+                    self._refuse_ahead(replica)
+                if self.refused.get(sender) != mark:
+                    reports.append((sender, RlsError(4, fault)))
+                self.refused[sender] = mark
+                continue
             try:
                 reports.append((sender, replica.take(message)))
             except RlsError as e:
@@ -82,14 +96,28 @@ class Mailbox:
             self.taken[sender] = mark
         return reports
 
-    def _guard(self, sender: int, message: bytes, own: Head) -> None:
-        """A message of this text that knows more of this member's operations than it has made is Stale."""
+    def _fault_of(self, sender: int, message: bytes, own: Head, replica: Replica) -> str:
+        """Why the head of a message isn't what it has to be at this name; nothing if it is, or if this is no head, which `take` says then."""
+        self.ahead.pop(sender, None)
         try:
             head = Head.of(message)
         except (ValueError, struct.error):
-            return                              # `take` says what is wrong with it
-        if (head.group, head.members) == (own.group, own.members) and head.counts[self.me] > own.counts[self.me]:
-            raise Stale(f"member {sender} has {head.counts[self.me]} operations of member {self.me}, who has made {own.counts[self.me]}")
+            return ""
+        name = os.path.basename(self.path(sender, self.me))
+        if (head.group, head.members) != (own.group, own.members):
+            return f"{name} is of another text; it stays where it is"
+        if head.sender != sender:
+            return f"{name} says that it is of member {head.sender}; it stays where it is"
+        if head.counts[self.me] <= own.counts[self.me]:
+            return ""
+        line = f"{name} counts {head.counts[self.me]} operations of member {self.me}, who has made {own.counts[self.me]}"
+        if sender not in doubted(replica.folder, own):
+            self.ahead[sender] = line
+        return line
+
+    def _refuse_ahead(self, replica: Replica) -> None:
+        for line in self.ahead.values():
+            raise Stale(f"{line}. The files in {replica.folder} are old, or the number is used twice: nothing is sent. Or somebody forged it: then delete it")
 
     def is_enough(self, to: int, message: bytes) -> bool:
         """Whether nothing ever came from this number and the message that it has already has more than half the bytes of this one. Each of
@@ -120,6 +148,7 @@ class Mailbox:
         """To how many members something new was written. What one member's name has that can't be replaced stops no other's: a warning
         says so once."""
         self.look(replica)
+        self._refuse_ahead(replica)
         count = 0
         own: Optional[Head] = None
         for to in range(self.members):
@@ -162,7 +191,7 @@ class Mailbox:
     def sync(self, replica: Replica) -> Tuple[Found, int]:
         """Takes what came, renames if that is due, and sends what is new. Answers the reports, each a pair of the sender and a Report, or
         the RlsError if its message couldn't be taken, and to how many members something was written. Where nothing has changed it looks at
-        names and times alone, and starts no program."""
+        names and times alone, and starts no program. A Stale has the reports in `found`: what others sent was taken."""
         if self.is_idle(replica):
             return [], 0
         # A round in which nothing came and nothing went is what the next are compared with, as it was before it.
@@ -171,8 +200,13 @@ class Mailbox:
             for sender, mark in note.get("taken", {}).items():
                 self.taken.setdefault(int(sender), bytes.fromhex(mark))
         reports = self.receive(replica)
-        replica.rename_if_due()
-        sent = self.send(replica)
+        try:
+            if not self.ahead:
+                replica.rename_if_due()
+            sent = self.send(replica)
+        except Stale as e:
+            e.found = reports
+            raise
         taken = {sender: mark.hex() for sender, mark in self.taken.items()}
         is_quiet = not reports and not sent and not self.warned
         write_note(replica.folder, {"mark": before if is_quiet else "", "state": sum_of(state_of(replica.folder)), "taken": taken})
@@ -211,6 +245,16 @@ def shown(name: str) -> str:
 
 def sum_of(value: object) -> str:
     return hashlib.sha256(repr(value).encode("utf-8", "surrogateescape")).hexdigest()
+
+
+def doubted(folder: str, own: Head) -> Set[int]:
+    """The members in whose name, as somebody has told the launcher, what they count of this member's operations isn't so."""
+    try:
+        lines = (regular(os.path.join(folder, "replica.doubted"), MOST_CURSOR) or b"").decode("ascii").splitlines()
+    except (RlsError, ValueError):
+        return set()
+    start = f"{own.group}-{own.members}-{own.sender} "
+    return {int(line[len(start):]) for line in lines if line.startswith(start) and line[len(start):].isdecimal()}
 
 
 def note_in(folder: str) -> Dict[str, Any]:
