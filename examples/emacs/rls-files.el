@@ -42,12 +42,23 @@ replaced, and not written through."
     (condition-case fault (rename-file new path t)
       (error (delete-file new) (signal (car fault) (cdr fault))))))
 
+(defun rls--keep-apart (folder shared)
+  "Refuses a SHARED folder in which the FOLDER of the replica is.
+A replica's files are its member's own: others would write over them there, and
+a synchroniser would put older ones in their place."
+  (when (file-in-directory-p folder shared)
+    (user-error "rls: the shared folder needs to be another one, in which the folder of the replica is not")))
+
+(defun rls--replica-p (folder)
+  "Whether a replica is in FOLDER."
+  (seq-some (lambda (name) (file-exists-p (expand-file-name name folder))) '("replica.gate" "replica.rls")))
+
 (defun rls--look-for (folder)
   "Looks whether a replica is in FOLDER.
 The program may have its files open, and store into them, when nobody finds them
 there any more."
   (unless (file-directory-p folder) (error "There is no folder %s" folder))
-  (unless (seq-some (lambda (name) (file-exists-p (expand-file-name name folder))) '("replica.gate" "replica.rls"))
+  (unless (rls--replica-p folder)
     (error "There is no replica in %s; `rls new GROUP ME MEMBERS' begins one there" folder)))
 
 (defun rls--editor-line ()

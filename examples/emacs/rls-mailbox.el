@@ -6,6 +6,7 @@
 (require 'rls-session)
 (require 'rls-changes)
 (require 'rls-tokens)
+(require 'rls-circle)
 (declare-function rls--stored "rls")
 (defvar rls-program)
 (defvar rls--folder)
@@ -31,6 +32,8 @@
 (defvar-local rls--places nil "The place and the name that each other member told of its cursor.")
 (defvar-local rls--lookup-due nil "Whether places of others have to be looked up again, since messages came.")
 (defvar-local rls--overlays nil "The overlay that shows each other member's cursor.")
+(defvar-local rls--labels nil "The overlay that shows the name beside each other member's cursor.")
+(defvar-local rls--ahead nil "What is said of each member whose message counts more edits than were made here.")
 
 ;;;; Messages.  One file for each sender and receiver: a message has all that its receiver isn't known to have, so the latest is enough.
 
@@ -50,14 +53,41 @@
     (rls--number (car reply) "message")
     (cadr reply)))
 
-(defun rls--guard (message from)
-  "Refuses a MESSAGE that knows more operations of this member than were made.
-Then the replica's files are old, or two members have its number."
+(defun rls--fault-of (message from)
+  "Why the head of MESSAGE isn't what the name of its file, that of FROM, says.
+Nil if it is, or if this is no head at all, which the session says then."
+  (when (and (>= (length message) (+ 21 (* 4 rls--members))) (equal (substring message 0 4) "RLSM"))
+    (let ((sender (rls--u32 message 17)))
+      (cond ((not (equal (substring message 5 17) (substring rls--head 5 17))) "it is of another text")
+            ((/= sender from) (format "its head says member %d" sender))))))
+
+(defun rls--doubted-p (from)
+  "Whether the launcher was told to doubt FROM.
+That is said by RLS_FORCE=1 (docs/USE.md, \"Rules\")."
+  (member (format "%d-%d-%d %d" rls--group rls--members rls--me from)
+          (split-string (or (ignore-errors (rls--read (expand-file-name "replica.doubted" rls--folder) rls--most-cursor)) "") "\n")))
+
+(defun rls--ahead-p (message from)
+  "Whether MESSAGE of FROM counts more operations of this member than were made.
+Then the files in the replica's folder are old, and whatever is made there has
+numbers that are taken; or the message is forged.  It isn't taken, and until its
+file is gone, or another one, nothing is sent: sending would part the texts for
+ever if the files are old.  The messages of others are taken."
   (let ((at (+ 21 (* 4 rls--me))))
-    (when (and (>= (length message) (+ at 4))
-               (equal (substring message 5 17) (substring rls--head 5 17))
-               (> (rls--u32 message at) (rls--u32 (rls--message rls--me) at)))
-      (error "rls: member %d knows more edits of member %d than this replica has: the files in its folder are old" from rls--me))))
+    (when (and (>= (length message) (+ at 4)) (> (rls--u32 message at) (rls--u32 (rls--message rls--me) at)))
+      (rls--note (format "of %d" from) (format "it counts more edits of member %d than this replica has made" rls--me))
+      (unless (rls--doubted-p from)
+        (let ((line (format "%d-%d-%d.rlsm counts more edits of member %d than were made here" rls--group from rls--me rls--me)))
+          (setf (alist-get from rls--ahead) (concat "NOT sent: " line))
+          (message "rls: %s. Nothing is sent: the files in %s are old, or the number is used twice (docs/USE.md, \"A replica is lost\"); or somebody forged it: then delete it"
+                   line rls--folder)))
+      t)))
+
+(defun rls--pass (from)
+  "The message of FROM is no longer in the way of sending."
+  (when (alist-get from rls--ahead)
+    (setf (alist-get from rls--ahead nil t) nil)
+    (setq rls--stopped t)))
 
 (defun rls--note (message problem)
   "Remembers the PROBLEM with a MESSAGE, such as \"of 2\"; nil if there is none."
@@ -70,10 +100,15 @@ read as a message is told, and stops no other member's."
   (let* ((name (format "of %d" from)) (path (rls--path from rls--me))
          (message (and (/= from rls--me) (rls--new-p path)
                        (condition-case fault
-                           (or (rls--read path rls--most-input) (rls--note name nil))
-                         (error (rls--note name (error-message-string fault)) nil)))))
-    (unless (or (null message) (equal message (alist-get from rls--taken)))
-      (rls--guard message from)
+                           (or (rls--read path rls--most-input) (ignore (rls--note name nil) (rls--pass from)))
+                         (error (rls--note name (error-message-string fault)) nil))))
+         (fault (and message (rls--fault-of message from))))
+    (when fault (rls--note name fault))
+    (when (and message (equal message (alist-get from rls--taken)))
+      (rls--note name nil)
+      (rls--pass from))
+    (unless (or (null message) fault (equal message (alist-get from rls--taken)) (rls--ahead-p message from))
+      (rls--pass from)
       (let* ((request (format "m %d" (length message)))
              (told (if (rls--make-room (+ (length request) 1 (length message))) (rls--ask-all request message) (rls--take-by-command message)))
              (reply (car told))
@@ -83,6 +118,7 @@ read as a message is told, and stops no other member's."
         (setf (alist-get from rls--taken) message)
         (unless is-refused
           (setq rls--changes (+ rls--changes (rls--number reply "applied")))
+          (unless (string-prefix-p "applied 0 released 0 " reply) (setq rls--last-writer (cons from (format-time-string "%H:%M"))))
           (or (nth 2 told) t))))))
 
 (defun rls--take-all ()
@@ -158,7 +194,7 @@ made here, nothing is written."
 It says before that this replica writes."
   (let ((due (seq-remove (lambda (x) (or (equal (cdr x) (alist-get (car x) rls--sent)) (rls--enough-p (car x) (cdr x)))) messages)) is-shown)
     (dolist (x due) (setf (alist-get (car x) rls--last) (cdr x)))
-    (when (and due (rls--shared-p) (rls--may-write-p))
+    (when (and due (not rls--ahead) (rls--shared-p) (rls--may-write-p))
       (setq due (seq-remove (lambda (x) (rls--written-p (car x) (cdr x))) due))
       (dolist (x (unless rls--twice due))
         (condition-case fault
@@ -205,17 +241,18 @@ or this replica may write again, and each tenth time that this is called."
 (defun rls--tell-point (reply &rest _)
   "Writes for others where point is, as REPLY says it."
   (let* ((place (and (string-match "\\`anchor \\([^ ]+\\)\\'" reply) (match-string 1 reply)))
-         (line (string-trim-right (concat place " " (replace-regexp-in-string "[[:cntrl:]]" "" rls-name)))))
+         (name (if (and rls--where (equal rls-name "")) (nth 4 rls--where) rls-name))
+         (line (string-trim-right (concat place " " (replace-regexp-in-string "[[:cntrl:]]" "" name)))))
     (when (and place (not (equal line rls--place)) (rls--may-write-p))
       (setq rls--place line)
       (ignore-errors (rls--write (rls--cursor-path rls--me) (concat (encode-coding-string line 'utf-8-unix) "\n"))))))
 
-(defun rls--told-place (path from)
-  "The place and the name that PATH tells of FROM's cursor; nil if none."
+(defun rls--told-place (path)
+  "The place that PATH tells of a cursor, and its name or nil; nil if none."
   (let ((data (or (ignore-errors (rls--read path rls--most-cursor)) "")))
     (when (string-match "\\`\\([!-~]+\\)\\(?: \\(.*\\)\\)?$" data)
       (list (match-string 1 data)
-            (if (match-string 2 data) (decode-coding-string (match-string 2 data) 'utf-8-unix) (format "member %d" from))))))
+            (and (match-string 2 data) (decode-coding-string (match-string 2 data) 'utf-8-unix))))))
 
 (defun rls--show-others ()
   "Shows where the cursors of others are.
@@ -223,7 +260,7 @@ What can't be read as a cursor isn't shown.  They are looked up again when
 messages came: then the session may know of places that it didn't know before."
   (dotimes (from rls--members)
     (let* ((path (rls--cursor-path from)) (is-new (and (/= from rls--me) (rls--new-p path))))
-      (when is-new (setf (alist-get from rls--places) (rls--told-place path from)))
+      (when is-new (setf (alist-get from rls--places) (rls--told-place path)))
       (let ((told (alist-get from rls--places)))
         (cond ((and is-new (not told)) (rls--mark-other from nil nil))
               ((and told (or is-new rls--lookup-due))
@@ -234,20 +271,25 @@ messages came: then the session may know of places that it didn't know before."
                                       (if (or rls--pending (/= edition rls--edition)) (setq rls--lookup-due t)
                                         (rls--mark-other from (and (string-match "\\`cursor \\([0-9]+\\)\\'" reply)
                                                                    (1+ (string-to-number (match-string 1 reply))))
-                                                         (cadr told)))))))))))
+                                                         (or (cadr told) (rls--name-of from))))))))))))
   (setq rls--lookup-due nil))
 
 (defun rls--mark-other (from at name)
-  "Shows the cursor of member FROM by an overlay AT a place; none if that is nil."
-  (let ((old (alist-get from rls--overlays)))
+  "Shows the cursor of member FROM by an overlay AT a place; none if that is nil.
+NAME is shown behind the line."
+  (dolist (old (list (alist-get from rls--overlays) (alist-get from rls--labels)))
     (when old (delete-overlay old)))
   (when at
     (save-restriction
       (widen)
       (let* ((is-end (or (>= at (point-max)) (eq (char-after at) ?\n))) (overlay (make-overlay at (if is-end at (1+ at)))))
         (if is-end (overlay-put overlay 'after-string (propertize " " 'face 'highlight)) (overlay-put overlay 'face 'highlight))
-        (overlay-put overlay 'help-echo (truncate-string-to-width (replace-regexp-in-string "[[:cntrl:]]" "" name) 40))
-        (setf (alist-get from rls--overlays) overlay)))))
+        (setf (alist-get from rls--overlays) overlay)
+        (let ((shown (truncate-string-to-width (replace-regexp-in-string "[[:cntrl:]]" "" (or name "")) 40))
+              (label (save-excursion (goto-char at) (make-overlay (line-end-position) (line-end-position) nil t t))))
+          (overlay-put overlay 'help-echo (if (equal shown "") (format "member %d" from) shown))
+          (unless (equal shown "") (overlay-put label 'after-string (propertize (concat "  " shown) 'face 'shadow)))
+          (setf (alist-get from rls--labels) label))))))
 
 (provide 'rls-mailbox)
 ;;; rls-mailbox.el ends here

@@ -4,7 +4,8 @@
 
 ;;; Commentary:
 
-;; M-x rls-open FOLDER SHARED opens the replica of a folder; messages go to other members and come from them through the folder SHARED.
+;; M-x rls-open FILE opens the shared text whose plain file this is (`rls share', `rls join'); when its buffer goes, the file is written.  M-x rls-open
+;; SHARED opens a text of a shared folder, and M-x rls-open FOLDER SHARED the replica of FOLDER; messages go through the folder SHARED.
 ;; C-x C-s stores, takes what came and sends what is new; timers do so too.  With the second version of the session Emacs' keys of undo take
 ;; back own edits alone, whatever others did since; with the first one M-x rls-undo takes back the last own edit that isn't stored yet.
 ;; README.md tells how to use it.
@@ -17,6 +18,7 @@
 (require 'rls-session)
 (require 'rls-changes)
 (require 'rls-mailbox)
+(require 'rls-circle)
 
 (defgroup rls nil "Texts that several people write, by rls." :group 'applications)
 (defcustom rls-program "rls" "The program." :type 'string)
@@ -271,7 +273,8 @@ After a fault it opens the replica again."
     (if rls--failed
         (rls--end-badly)
       (rls--try (lambda () (rls--ask "q") (rls--end-process))))
-    (rls--release rls--folder)))
+    (rls--release rls--folder)
+    (rls--write-file rls--where)))
 
 (defun rls--let-go ()
   "Ends the session without waiting: at the end of its input it stores."
@@ -292,22 +295,25 @@ process that is dead; so it waits only if it was asked to end just now."
   (let ((close (if (< (- (float-time) rls--asked) 60) #'rls--close #'rls--let-go)))
     (dolist (buffer (buffer-list))
       (when (and (buffer-live-p buffer) (buffer-local-value 'rls--process buffer))
-        (with-current-buffer buffer (funcall close))))))
+        (with-current-buffer buffer (funcall close)))))
+  (rls--wait-for-files))
 
 (defun rls--trouble ()
   "What is wrong with the replica, if something is.
-Since a fault nothing is stored; while its number is used twice nothing is sent."
+Since a fault nothing is stored; while its number may be used twice nothing is
+sent."
   (or rls--fault
       (let ((waits (rls--waits))) (when (>= waits 3) (format "NOT stored: the program has not answered for %d s" waits)))
-      (cadr rls--twice)))
+      (cadr rls--twice)
+      (cdar rls--ahead)))
 
 (defun rls--status ()
   "What the mode line says of the replica."
   (let ((trouble (rls--trouble)))
     (concat (when trouble (propertize trouble 'face 'error))
             (unless rls--failed
-              (format "%smember %s of %s%s%s%s" (if trouble "; " "") rls--me rls--members (if rls--unsaved ", not stored" "")
-                      (if rls--away ", the shared folder is not there" "")
+              (format "%s%smember %s of %s%s%s%s%s" (if trouble "; " "") (if rls--where (concat (nth 4 rls--where) ", ") "") rls--me rls--members
+                      (if rls--unsaved ", not stored" "") (rls--wrote) (if rls--away ", the shared folder is not there" "")
                       (mapconcat (lambda (x) (format ", message %s: %s" (car x) (cdr x))) rls--problems ""))))))
 
 (defun rls--save ()
@@ -337,7 +343,7 @@ Emacs keeps the hook, and calls it only once somebody has looked at it."
                              rls--typed rls--told rls--behind rls--process rls--version rls--telling rls--given rls--waiting rls--failed
                              rls--shared rls--head rls--group rls--members rls--me rls--seen rls--taken rls--sent rls--last rls--marks
                              rls--looked rls--away rls--changes rls--problems rls--shown rls--place rls--places rls--lookup-due
-                             rls--overlays rls--twice rls--stopped))
+                             rls--overlays rls--labels rls--twice rls--ahead rls--stopped rls--where rls--last-writer))
   (put variable 'permanent-local t))
 
 (define-minor-mode rls-mode
@@ -368,7 +374,7 @@ What was typed and isn't in the replica is put in again; nothing is deleted,
 since what isn't in the buffer may be of others."
   (rls--end-badly)
   (rls--look-for rls--folder)
-  (setq rls--pending nil rls--unsaved nil rls--behind nil rls--boundary t rls--cut nil rls--taken nil rls--seen nil rls--fault nil)
+  (setq rls--pending nil rls--unsaved nil rls--behind nil rls--boundary t rls--cut nil rls--taken nil rls--seen nil rls--ahead nil rls--fault nil)
   (let ((fault rls--failed))
     (setq rls--failed nil)
     (unwind-protect
@@ -404,13 +410,6 @@ A message to oneself has a head alone."
         rls--group (+ (ash (rls--u32 rls--head 5) 32) (rls--u32 rls--head 9))
         rls--members (rls--u32 rls--head 13) rls--me (rls--u32 rls--head 17)))
 
-(defun rls--keep-apart (folder shared)
-  "Refuses a SHARED folder in which the FOLDER of the replica is.
-A replica's files are its member's own: others would write over them there, and
-a synchroniser would put older ones in their place."
-  (when (file-in-directory-p folder shared)
-    (user-error "rls: the shared folder needs to be another one, in which the folder of the replica is not")))
-
 (defun rls--make-shared ()
   "Makes the shared folder, if it isn't there."
   (unless (file-directory-p rls--shared)
@@ -418,15 +417,16 @@ a synchroniser would put older ones in their place."
     (message "rls: made the shared folder%s"
              (if (zerop (logand #o020 (file-modes rls--shared))) "; nobody else on this machine may write into it" ""))))
 
-(defun rls--open-new (folder shared)
-  "A buffer for the replica of FOLDER."
-  (let ((buffer (generate-new-buffer (concat "rls:" (file-name-nondirectory (directory-file-name folder))))) done)
+(defun rls--open-new (folder shared place)
+  "A buffer for the replica of FOLDER, whose messages go through SHARED.
+PLACE is what `rls where' says of it, if it is of a circle."
+  (let ((buffer (generate-new-buffer (concat "rls:" (or (nth 2 place) (file-name-nondirectory (directory-file-name folder)))))) done)
     (with-current-buffer buffer
       (unwind-protect
           (progn
             (text-mode)
             (setq-local require-final-newline nil)
-            (setq rls--folder folder rls--shared shared rls--name (buffer-name) default-directory folder)
+            (setq rls--folder folder rls--shared shared rls--where place rls--name (buffer-name) default-directory folder)
             (rls--make-shared)
             (setq rls--changes rls-rename-at rls--opening t)
             (rls--begin rls-program folder)
@@ -440,6 +440,7 @@ a synchroniser would put older ones in their place."
       (goto-char (point-min))
       (rls-mode 1)
       (when rls-every (rls--begin-timer buffer))
+      (when place (rls--begin-tending shared))
       (rls-sync))
     buffer))
 
@@ -461,16 +462,29 @@ a synchroniser would put older ones in their place."
     (goto-char (point-min))
     (set-buffer-modified-p nil)))
 
+(defun rls--place-of (first second)
+  "Where the text is that FIRST and SECOND name, as `rls--where'; a list without
+a name for the replica in FIRST, whose messages go through SECOND."
+  (if (or (rls--replica-p first) (and second (not (ignore-errors (directory-files first nil "\\.circle\\'")))))
+      (progn
+        (unless second (user-error "rls: say the shared folder, too: (rls-open FOLDER SHARED)"))
+        (rls--look-for first)
+        (rls--keep-apart first second)
+        (list (expand-file-name first) (expand-file-name second)))
+    (rls--find first second)))
+
 ;;;###autoload
-(defun rls-open (folder shared)
-  "Opens the replica of FOLDER; messages go through the folder SHARED.
-After a fault it opens the replica again in its buffer."
-  (interactive "DReplica: \nDShared folder: ")
-  (rls--look-for folder)
-  (rls--keep-apart folder shared)
-  (let* ((folder (file-name-as-directory (expand-file-name folder)))
+(defun rls-open (first &optional second)
+  "Opens the shared text whose plain file is FIRST.
+FIRST may be a shared folder, too, and SECOND the name of a text there; or FIRST
+is the folder of a replica, and SECOND that for its messages.  After a fault it
+opens the replica again in its buffer."
+  (interactive (let ((first (read-file-name "Shared file or folder: ")))
+                 (list first (when (rls--replica-p first) (read-directory-name "Shared folder: ")))))
+  (let* ((place (rls--place-of first second)) (folder (file-name-as-directory (car place))) (place-or-none (and (cddr place) place))
          (buffer (seq-find (lambda (x) (equal folder (buffer-local-value 'rls--folder x))) (buffer-list))))
-    (if (not buffer) (setq buffer (or (catch 'rls-read (rls--open-new folder (expand-file-name shared))) (rls--show-text folder)))
+    (unless buffer (rls--bring-in place))
+    (if (not buffer) (setq buffer (or (catch 'rls-read (rls--open-new folder (nth 1 place) place-or-none)) (rls--show-text folder)))
       (with-current-buffer buffer
         (when rls--failed (rls-sync))))
     (when (called-interactively-p 'any) (switch-to-buffer buffer))

@@ -17,8 +17,15 @@ replicas() {
   (cd "$room/ben" && "$RLS" new 7 1 2 >/dev/null)
 }
 
-# Opens a pane of tmux with this command.
-begin() { tmux -L "$socket" -f /dev/null new-session -d -s test -x 100 -y 24 "$1"; }
+# Opens a pane of tmux with this command. A tmux that is just ending, with its last pane, opens none.
+begin() {
+  for _ in {1..50}; do
+    if tmux -L "$socket" -f /dev/null new-session -d -s test -x 100 -y 24 "$1" 2>"$room/tmux"; then return; fi
+    sleep 0.1
+  done
+  cat "$room/tmux"
+  return 1
+}
 
 # Types into the pane: each word is a name of a key, such as Escape, or a text.
 keys() {
@@ -134,18 +141,21 @@ play_typing() {
 . "$(dirname "${BASH_SOURCE[0]}")/second.sh"
 # shellcheck source-path=SCRIPTDIR source=faults.sh
 . "$(dirname "${BASH_SOURCE[0]}")/faults.sh"
+# shellcheck source-path=SCRIPTDIR source=circle.sh
+. "$(dirname "${BASH_SOURCE[0]}")/circle.sh"
 
 # Plays what is named from the third word on, or else all of it: $1 begins the editor, and $2 begins one that opens the folders of the environment's
 # ODD. The test of the editor has the play `random`.
 play_all() {
   local name command=$1 odd=$2
   local -a names=("${@:3}")
-  [ ${#names[@]} -gt 0 ] || names=(random typing undo beside elsewhere cursors places heap mixed away copy empty again kill waiting killed second hang fault apart twice large odd)
+  [ ${#names[@]} -gt 0 ] || names=(random typing undo beside elsewhere cursors places heap mixed away copy empty again kill waiting killed second hang fault apart twice ahead large odd circle words_of_circles)
   for name in "${names[@]}"; do
     case $name in
       undo | beside | elsewhere | cursors | places | heap | copy) if is_second; then "play_$name" "$command"; else echo "skipped $name: it needs the second version of the session"; fi ;;
       mixed) if is_third; then play_mixed "$command"; else echo "skipped $name: it needs the third version of the session"; fi ;;
       odd) play_odd "$odd" ;;
+      circle | words_of_circles) if has_circles; then "play_$name"; else echo "skipped $name: it needs \`rls share\` and python3"; fi ;;
       *) "play_$name" "$command" ;;
     esac
   done
@@ -372,3 +382,5 @@ place_marks() { keys '5G0ma' ':8,9fold' Enter '11G0wve'; }
 delete_selection() { keys d; }
 type_at_mark() { type_text "'aA$1"; keys Escape; }
 leave_editor() { keys Escape ':qa!' Enter; }
+close_text() { keys Escape ':bwipeout!' Enter; }
+choose_other() { type_text "$(screen | sed -n 's/.*\([0-9]\) other.txt.*/\1/p' | head -n 1)"; keys Enter; }

@@ -240,3 +240,51 @@ play_large() {
   ben_has 'what is typed then' 'end of it'
   leave_editor
 }
+
+# Member 2 has written for member 0, and the byte at $1 of its message is another one now, as somebody forges it.
+forged() {
+  (cd "$room/cleo" && "$RLS" send 0 >"$room/forged")
+  printf '%b' "$2" | dd of="$room/forged" bs=1 seek="$1" conv=notrunc 2>/dev/null
+  cp "$room/forged" "$room/shared/.new" && mv "$room/shared/.new" "$room/shared/7-2-0.rlsm"
+}
+
+# A message whose head isn't what the name of its file says, or counts edits that its receiver hasn't made: it is told and stays where it is, and what
+# others send is taken. Of the second kind nothing is sent as long as it is there, unless the launcher was told to doubt that member. $1 begins the editor.
+play_ahead() {
+  local member
+  replicas
+  rm -r "$room/ada" "$room/ben" && mkdir "$room/ada" "$room/ben" "$room/cleo"
+  for member in 'ada 0' 'ben 1' 'cleo 2'; do (cd "$room/${member% *}" && "$RLS" new 7 "${member#* }" 3 >/dev/null); done
+  begin "$1"
+  shows 'the status line' 'member 0 of 3'
+  begin_typing=i
+  append Start
+  end_typing
+  ben_has 'what is typed' Start
+  forged 12 '\0011'
+  shows 'a message of another text' 'message of 2: it is of another text'
+  forged 20 '\0001'
+  shows 'a message that says that it is of another member' 'message of 2: its head says member 1'
+  ben_edits 'i 0 One '
+  shows 'what others send then' 'One Start'
+  type_at_end ' two'
+  ben_has 'what is typed then' 'One Start two'
+  forged 24 '\0310'
+  shows 'a message that counts edits which were not made' 'NOT sent: 7-2-0.rlsm counts more edits of member 0'
+  ben_edits 'i 0 And '
+  shows 'what others send all the same' 'And One Start two'
+  type_at_end ' three'
+  wait_for 'what is typed is stored' 'And One Start two three' stored_text
+  sleep 2
+  wait_for 'and not sent' 'And One Start two' taken_text
+  rm "$room/shared/7-2-0.rlsm"
+  ben_has 'it is sent once that file is gone' 'And One Start two three'
+  printf '7-3-0 2\n' >"$room/ada/replica.doubted"
+  forged 24 '\0310'
+  shows 'such a message of a member who is doubted' 'message of 2: it counts more edits'
+  type_at_end ' four'
+  ben_has 'what is typed and sent beside it' 'And One Start two three four'
+  [ "$(cksum <"$room/forged")" = "$(cksum <"$room/shared/7-2-0.rlsm")" ] || { echo 'FAILED  a forged message stays where it is'; exit 1; }
+  leave_editor
+  leave_tmux
+}

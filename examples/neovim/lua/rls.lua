@@ -1,5 +1,8 @@
 -- Edits a replica of rls in a buffer, and exchanges messages with other members through a shared folder. README.md tells how to use it.
 --
+--   require('rls').open(file)              opens the shared text whose plain file this is (`rls share`, `rls join`); when it is closed, the file
+--                                          is written
+--   require('rls').open(shared [, name])   opens a text of a shared folder
 --   require('rls').open(folder, shared)    opens the replica of a folder; messages go through the folder `shared`. After a fault it opens the
 --                                          replica again in its buffer
 --   :w                                     stores, takes what came and sends what is new; timers do so too
@@ -18,7 +21,7 @@ local M = {
   cursors = true, -- whether to tell where the cursor is, and to show where those of others are (second version)
   name = '', -- what others see beside the cursor
 }
-local Replica = require('rls.replica')
+local Replica, Circle, files = require('rls.replica'), require('rls.circle'), require('rls.files')
 local api = vim.api
 local replicas = {} -- by buffer
 local place_of_others = api.nvim_create_namespace('rls')
@@ -37,6 +40,13 @@ end
 local function close(self)
   replicas[self.buf] = nil
   self:close()
+  Circle.finish(self)
+end
+
+-- The name of a replica's buffer: that of the plain file, if it has one.
+local function title(self)
+  local place = self.place or {}
+  return 'rls:' .. (place.file or place.name and place.shared .. '/' .. place.name or self.folder)
 end
 
 -- What `:w` does: it stores and sends. After a fault it tries it anew.
@@ -54,7 +64,7 @@ end
 
 -- What `:w FILE` does beside storing: it writes the text there, as `rls text` prints it.
 local function write_copy(self, event)
-  local own = 'rls:' .. self.folder
+  local own = title(self)
   if event.file == '' or event.file:sub(-#own) == own then return end
   local lines = api.nvim_buf_get_lines(self.buf, 0, -1, true)
   if vim.fn.writefile(lines, event.file, 'b') == 0 then api.nvim_echo({ { ('"%s" a copy of the text, %d lines'):format(event.file, #lines) } }, false, {}) end
@@ -85,7 +95,7 @@ end
 
 local function show(self)
   api.nvim_set_current_buf(self.buf)
-  api.nvim_buf_set_name(self.buf, 'rls:' .. self.folder)
+  api.nvim_buf_set_name(self.buf, title(self))
   local options = vim.bo[self.buf]
   options.buftype, options.bufhidden, options.swapfile, options.endofline, options.fixendofline = 'acwrite', 'hide', false, false, false
   self:attach()
@@ -95,7 +105,8 @@ end
 
 -- What `:e` does, which empties the buffer and ends the session: opens the replica in its buffer again.
 read_again = function(old)
-  local done, self = pcall(Replica.open, M, place_of_others, old.folder, old.shared)
+  Circle.wait()
+  local done, self = pcall(Replica.open, M, place_of_others, old.folder, old.shared, old.place)
   if not done then return vim.notify(tostring(self), vim.log.levels.ERROR) end
   self.buf = old.buf
   replicas[self.buf] = self
@@ -103,6 +114,7 @@ read_again = function(old)
   vim.bo[self.buf].modified = false
   watch(self)
   map(self)
+  Circle.begin(self)
   self:try('sync')
 end
 
@@ -113,22 +125,35 @@ local function known(folder)
   end
 end
 
-local function opened(folder, shared)
-  if not (folder and shared) then error('rls: say the folder of the replica, and the shared folder', 0) end
-  folder, shared = vim.fn.fnamemodify(folder, ':p'):gsub('(.)/$', '%1'), vim.fn.fnamemodify(shared, ':p')
-  shared = shared:gsub('(.)/$', '%1')
+local function full(path) return (vim.fn.fnamemodify(path, ':p'):gsub('(.)/$', '%1')) end
+
+-- Where a text is: a replica and the folder for its messages, if these are named; otherwise what `rls where` finds, also its plain file and own name.
+local function found(first, second)
+  if not first then error('rls: say a file or a folder that is shared (open(FILE), open(SHARED, NAME)), or a replica: open(FOLDER, SHARED)', 0) end
+  first = full(first)
+  if not files.has_replica(first) and (not second or Circle.is_in(first)) then
+    local place = Circle.find(M.program, first, second)
+    return place.folder, place.shared, place
+  end
+  if not second then error('rls: say the shared folder, too: open(FOLDER, SHARED)', 0) end
+  return first, full(second)
+end
+
+local function opened(folder, shared, place)
   local self = known(folder)
   if self then
     api.nvim_set_current_buf(self.buf)
     if self.failed then self:open_again() end
     return self
   end
-  self = Replica.open(M, place_of_others, folder, shared)
+  if place then Circle.bring_in(M.program, place) end
+  self = Replica.open(M, place_of_others, folder, shared, place)
   self.buf = api.nvim_create_buf(true, false)
   replicas[self.buf] = self
   show(self)
   watch(self)
   map(self)
+  Circle.begin(self)
   self:try('sync')
   return self
 end
@@ -151,8 +176,10 @@ local function show_text(folder)
 end
 
 -- Opens a replica. If it can't be opened, one line says why, and the answer is nil.
-function M.open(folder, shared)
-  local done, answer = pcall(opened, folder, shared)
+function M.open(first, second)
+  local done, folder, shared, place = pcall(found, first, second)
+  local answer = folder
+  if done then done, answer = pcall(opened, folder, shared, place) end
   if done then return answer end
   if answer == 'rls: to be read' then return show_text(folder) end
   vim.notify(tostring(answer), vim.log.levels.ERROR)

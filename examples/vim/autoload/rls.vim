@@ -5,27 +5,41 @@ let s:open = {}                                 " the replica of each buffer tha
 let s:busy = 0                                  " whether a request waits for its reply, so that no timer may ask another
 
 " What `:RlsOpen` does: a replica that can't be opened is told in one line.
-function rls#open(folder = '', shared = '', ...) abort
+function rls#open(first = '', second = '', ...) abort
+  let place = {}
   try
-    if a:shared ==# '' || a:0 > 0
-      throw 'rls: say the folder of the replica, and the shared folder: :RlsOpen FOLDER SHARED'
+    if a:first ==# '' || a:0 > 0
+      throw 'rls: say a file or a folder that is shared (:RlsOpen FILE, :RlsOpen SHARED [NAME]), or a replica: :RlsOpen FOLDER SHARED'
     endif
-    call s:open_replica(a:folder, a:shared)
+    let place = s:place(a:first, a:second)
+    call s:open_replica(place)
   catch /^rls: to be read$/
-    call s:show_text(rls#replica#full(a:folder))
+    call s:show_text(place.folder)
   catch
     echohl ErrorMsg | echomsg v:exception | echohl None
   endtry
 endfunction
 
-function s:open_replica(folder, shared) abort
+" Where a text is: a replica and the folder for its messages, if these are named; otherwise what `rls where` finds, also its plain file and the own name.
+function s:place(first, second) abort
+  if rls#replica#is_in(a:first) || (a:second !=# '' && !rls#circle#is_in(a:first))
+    if a:second ==# ''
+      throw 'rls: say the shared folder, too: :RlsOpen FOLDER SHARED'
+    endif
+    return {'folder': rls#replica#full(a:first), 'shared': rls#replica#full(a:second), 'name': '', 'file': '', 'own': ''}
+  endif
+  return rls#circle#find(a:first, a:second)
+endfunction
+
+function s:open_replica(place) abort
   for [buf, other] in items(s:open)
-    if other.folder ==# rls#replica#full(a:folder)
+    if other.folder ==# a:place.folder
       execute 'buffer' buf
       return other.failed ==# '' ? 0 : rls#replica#open_again(other)
     endif
   endfor
-  let r = rls#replica#new(a:folder, a:shared)
+  call rls#circle#bring_in(a:place)
+  let r = rls#replica#new(a:place)
   call s:show(r, rls#session#lines_of(rls#session#text(r)))
 endfunction
 
@@ -56,8 +70,14 @@ endfunction
 
 function s:show(r, lines) abort
   enew
-  execute 'silent file' fnameescape('rls:' . a:r.folder)
+  execute 'silent file' fnameescape(s:title(a:r))
   call s:fill(a:r, a:lines)
+endfunction
+
+" The name of a replica's buffer: that of the plain file, if it has one.
+function s:title(r) abort
+  let place = a:r.place
+  return 'rls:' . (place.file !=# '' ? place.file : place.name !=# '' ? place.shared . '/' . place.name : place.folder)
 endfunction
 
 " Shows lines in the current buffer, which is empty, and edits the replica there.
@@ -78,6 +98,7 @@ function s:fill(r, lines) abort
   call rls#undo#map(a:r)
   call rls#changes#listen(a:r)
   call s:watch(a:r)
+  call rls#circle#begin(a:r)
   call rls#exchange#begin(a:r)
 endfunction
 
@@ -88,7 +109,7 @@ function s:watch(r) abort
     execute 'autocmd TextChanged,InsertLeave <buffer=' . buf . '> call rls#try("rls#changes#end_group", ' . buf . ')'
     execute 'autocmd BufWriteCmd <buffer=' . buf . '> call s:write(' . buf . ', expand("<afile>"))'
     execute 'autocmd BufUnload <buffer=' . buf . '> call s:close(' . buf . ')'
-    execute 'autocmd BufReadCmd <buffer=' . buf . '> call s:read_again(' . string(a:r.folder) . ', ' . string(a:r.shared) . ')'
+    execute 'autocmd BufReadCmd <buffer=' . buf . '> call s:read_again(' . string(a:r.place) . ')'
   augroup END
 endfunction
 
@@ -122,12 +143,12 @@ function rls#later(milliseconds, buf, Function) abort
   return timer_start(a:milliseconds, {_ -> s:busy ? rls#later(50, a:buf, a:Function) : rls#try(a:Function, a:buf)})
 endfunction
 
-" What is wrong with a buffer's replica: since a fault nothing is stored, and while its number is used twice nothing is sent.
+" What is wrong with a buffer's replica: since a fault nothing is stored, and while its number may be used twice nothing is sent.
 function rls#fault(buf) abort
   let r = get(s:open, a:buf, {})
   let waits = empty(r) ? 0 : rls#session#waits(r)
   if get(r, 'fault', '') !=# '' || waits < 3
-    return get(r, 'fault', '') !=# '' ? r.fault : get(get(r, 'twice', {}), 'line', '')
+    return get(r, 'fault', '') !=# '' ? r.fault : get(get(r, 'twice', {}), 'line', get(values(get(r, 'ahead', {})), 0, ''))
   endif
   return printf('NOT stored: the program has not answered for %d s', waits)
 endfunction
@@ -139,7 +160,8 @@ function rls#state(buf) abort
     return ''
   endif
   let problems = (r.is_away ? ', the shared folder is not there' : '') . join(values(map(copy(r.problems), {message, problem -> ', message ' . message . ': ' . problem})), '')
-  return printf('%smember %d of %d%s%s', rls#fault(a:buf) ==# '' ? '' : '; ', r.me, r.members, r.unsaved ? ', not stored' : '', problems)
+  let own = r.place.own ==# '' ? '' : r.place.own . ', '
+  return printf('%s%smember %d of %d%s%s%s', rls#fault(a:buf) ==# '' ? '' : '; ', own, r.me, r.members, r.unsaved ? ', not stored' : '', rls#circle#wrote(r), problems)
 endfunction
 
 " What `:w` does: it stores and sends. After a fault it tries it anew.
@@ -159,7 +181,7 @@ endfunction
 
 " What `:w FILE` does beside storing: it writes the text there, as `rls text` prints it.
 function s:write_copy(buf, file) abort
-  let own = 'rls:' . get(get(s:open, a:buf, {}), 'folder', '')
+  let own = has_key(s:open, a:buf) ? s:title(s:open[a:buf]) : ''
   if a:file ==# '' || strpart(a:file, len(a:file) - len(own)) ==# own
     return
   endif
@@ -170,9 +192,10 @@ function s:write_copy(buf, file) abort
 endfunction
 
 " What `:e` does, which empties the buffer and ends the session: opens the replica in its buffer again.
-function s:read_again(folder, shared) abort
+function s:read_again(place) abort
   try
-    let r = rls#replica#new(a:folder, a:shared)
+    call rls#circle#wait()
+    let r = rls#replica#new(a:place)
     call s:fill(r, rls#session#lines_of(rls#session#text(r)))
   catch
     echohl ErrorMsg | echomsg v:exception | echohl None
@@ -195,4 +218,5 @@ function s:close(buf) abort
   endif
   call rls#files#let_go(r.folder)
   call delete(r.errors)
+  call rls#circle#end(r)
 endfunction

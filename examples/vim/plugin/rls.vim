@@ -1,5 +1,7 @@
 " Edits a replica of rls in a buffer, and exchanges messages with other members through a shared folder. README.md tells how to use it.
 "
+"   :RlsOpen FILE              opens the shared text whose plain file this is (`rls share`, `rls join`); when it is closed, the file is written
+"   :RlsOpen SHARED [NAME]     opens a text of a shared folder
 "   :RlsOpen FOLDER SHARED     opens the replica of FOLDER; messages go through the folder SHARED. After a fault it opens the replica again in
 "                              its buffer
 "   :w                         stores, takes what came and sends what is new; timers do so too
@@ -25,6 +27,6 @@ function RlsStatus() abort
   return rls#fault(bufnr('%')) . rls#state(bufnr('%'))
 endfunction
 
-command -nargs=+ -complete=dir RlsOpen call rls#open(<f-args>)
+command -nargs=+ -complete=file RlsOpen call rls#open(<f-args>)
 command RlsUndo call rls#try('rls#undo#undo', bufnr('%'))
 command RlsRedo call rls#try('rls#undo#redo', bufnr('%'))

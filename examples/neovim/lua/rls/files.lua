@@ -2,6 +2,12 @@
 local uv = vim.loop
 local M = {}
 
+-- Says a line in red, which stays in `:messages`. Unlike `nvim_echo` it cuts short what it shows, so no key has to be pressed for it.
+function M.warn(text)
+  text = text:gsub('%c', '?'):gsub("'", "''")
+  vim.schedule(function() vim.cmd(("echohl ErrorMsg | echomsg '%s' | echohl None"):format(text)) end)
+end
+
 -- The number in the four bytes after these many.
 function M.u32(data, at)
   local a, b, c, d = data:byte(at + 1, at + 4)
@@ -56,10 +62,12 @@ local function said(why, folder)
   return why and why:match('^%u+: ([^:]+)') or why
 end
 
+function M.has_replica(folder) return (uv.fs_stat(folder .. '/replica.gate') or uv.fs_stat(folder .. '/replica.rls')) ~= nil end
+
 -- Looks whether a replica is in a folder: the program may have its files open, and store into them, when nobody finds them there any more.
 function M.look_for(folder)
   if vim.fn.isdirectory(folder) == 0 then error('rls: there is no folder ' .. folder, 0) end
-  if not (uv.fs_stat(folder .. '/replica.gate') or uv.fs_stat(folder .. '/replica.rls')) then
+  if not M.has_replica(folder) then
     error(('rls: there is no replica in %s; `rls new GROUP ME MEMBERS` begins one there'):format(folder), 0)
   end
 end

@@ -18,12 +18,35 @@ function M:is_new(path)
   return true
 end
 
--- Refuses a message that knows more operations of this member than the replica has made: then its files are old, or two members have its number.
-function M:guard(message, from)
+-- Why the head of a message isn't what the name of its file says; nil if it is, or if this is no head at all, which the session says then.
+function M:fault_of(message, from)
+  if #message < 21 + 4 * self.members or message:sub(1, 4) ~= 'RLSM' then return nil end
+  if message:sub(6, 17) ~= self.head:sub(6, 17) then return 'it is of another text' end
+  local sender = files.u32(message, 17)
+  return sender ~= from and 'its head says member ' .. sender or nil
+end
+
+-- Whether a message counts more operations of this member than the replica has made. Then the files in the replica's folder are old, and whatever is
+-- made there has numbers that are taken; or the message is forged. It isn't taken, and until its file is gone, or another one, nothing is sent:
+-- sending would part the texts for ever if the files are old. The messages of others are taken. Whom the launcher was told to doubt, by RLS_FORCE=1
+-- (docs/USE.md, "Rules"), keeps nobody from sending.
+function M:counts_ahead(message, from)
   local at = 21 + 4 * self.me
-  if #message >= at + 4 and message:sub(6, 17) == self.head:sub(6, 17) and files.u32(message, at) > files.u32(self:message(self.me), at) then
-    error(('rls: member %d knows more edits of member %d than this replica has: the files in its folder are old'):format(from, self.me), 0)
+  if #message < at + 4 or files.u32(message, at) <= files.u32(self:message(self.me), at) then return false end
+  self.problems['of ' .. from] = ('it counts more edits of member %d than this replica has made'):format(self.me)
+  local doubted = '\n' .. (files.read(self.folder .. '/replica.doubted', MOST_CURSOR) or '')
+  if not doubted:find(('\n%s-%d-%d %d\n'):format(self.group, self.members, self.me, from), 1, true) then
+    local line = ('%s-%d-%d.rlsm counts more edits of member %d than were made here'):format(self.group, from, self.me, self.me)
+    self.ahead[from] = 'NOT sent: ' .. line
+    files.warn(('rls: %s. Nothing is sent: the files in %s are old, or the number is used twice (docs/USE.md, "A replica is lost"); or somebody forged it: then delete it')
+      :format(line, self.folder))
   end
+  return true
+end
+
+-- A member's message is no longer in the way of sending.
+function M:pass(from)
+  if self.ahead[from] then self.ahead[from], self.is_stopped = nil, true end
 end
 
 -- Takes what came from one member, and adds what it changed to `changes`. Answers whether there was anything. What can't be read as a message
@@ -33,8 +56,11 @@ function M:take_from(from, changes)
   if from == self.me or not self:is_new(path) then return false end
   local message, why = files.read(path, MOST_MESSAGE)
   self.problems['of ' .. from] = why
+  if not why and (not message or message == self.taken[from]) then self:pass(from) end
   if not message or message == self.taken[from] then return false end
-  self:guard(message, from)
+  self.problems['of ' .. from] = self:fault_of(message, from)
+  if self.problems['of ' .. from] or self:counts_ahead(message, from) then return false end
+  self:pass(from)
   local request, reply, _, told = 'm ' .. #message, nil, nil, nil
   if self:make_room(#request + 1 + #message) then
     reply, _, told = self.session:ask(request, message)
@@ -47,6 +73,7 @@ function M:take_from(from, changes)
   self.taken[from] = message -- what was refused once is refused again
   if refused then return false end
   self.changes = self.changes + (tonumber(reply:match('^applied (%d+)')) or error('rls: ' .. reply, 0))
+  if not reply:match('^applied 0 released 0 ') then self.wrote = { from = from, at = os.date('%H:%M') } end
   return true
 end
 
@@ -90,7 +117,7 @@ function M:write(messages)
   for to, message in pairs(messages) do
     if message ~= self.sent[to] and not self:is_enough(to, message) then due[to], self.last[to] = message, message end
   end
-  if not next(due) or not self:has_shared() or not self:may_write() then return end
+  if not next(due) or next(self.ahead) or not self:has_shared() or not self:may_write() then return end
   for to, message in pairs(due) do
     if self:is_written(to, message) then due[to] = nil end
   end
@@ -138,7 +165,8 @@ function M:show_cursor()
   self.shown = place
   self.session:send('a ' .. place, nil, function(reply)
     local word = reply:match('^anchor (%S+)$')
-    local line = word and (word .. ' ' .. self.options.name:gsub('%c', '')):gsub(' $', '') .. '\n'
+    local name = self.options.name ~= '' and self.options.name or (self.place or {}).own or ''
+    local line = word and (word .. ' ' .. name:gsub('%c', '')):gsub(' $', '') .. '\n'
     if line and line ~= self.told_cursor and self:may_write() then
       self.told_cursor = line
       files.write(self:cursor_path(self.me), line)
@@ -168,7 +196,7 @@ function M:show_others()
         if self.told or self.edition ~= edition then
           self.is_lookup_due = true -- the text is another one by now
         else
-          self:mark(from, tonumber(reply:match('^cursor (%d+)$')), told.name)
+          self:mark(from, tonumber(reply:match('^cursor (%d+)$')), told.name ~= '' and told.name or self.names[from] or '')
         end
       end)
     end

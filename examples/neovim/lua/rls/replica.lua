@@ -25,8 +25,9 @@ local function keep_apart(folder, shared)
   end
 end
 
-function Replica.open(options, namespace, folder, shared)
-  local self = setmetatable({ options = options, namespace = namespace, folder = folder, shared = shared, taken = {}, sent = {}, last = {}, marks = {}, looked = 0,
+-- `place` is what `rls where` says of a text of a circle; nil for a replica that was begun by hand.
+function Replica.open(options, namespace, folder, shared, place)
+  local self = setmetatable({ options = options, namespace = namespace, folder = folder, shared = shared, place = place, names = {}, ahead = {}, taken = {}, sent = {}, last = {}, marks = {}, looked = 0,
     seen = {}, problems = {}, places = {}, steps = 0, changes = options.rename_at, unsaved = false, waits_until = 0, edition = 0 }, Replica)
   files.look_for(folder)
   keep_apart(folder, shared)
@@ -403,7 +404,7 @@ function Replica:open_again()
   files.look_for(self.folder)
   self:start()
   self.told, self.is_refusal_told, self.is_behind, self.is_boundary, self.is_cut, self.unsaved = nil, nil, false, true, false, false
-  self.taken, self.seen = {}, {}
+  self.taken, self.seen, self.ahead = {}, {}, {}
   self:take_all({})
   local stored = vim.split(self:text(), '\n', { plain = true })
   local shown = api.nvim_buf_get_lines(self.buf, 0, -1, true)
@@ -437,10 +438,10 @@ function Replica:close()
   files.let_go(self.folder)
 end
 
--- What is wrong with the replica: since a fault nothing is stored, and while its number is used twice nothing is sent.
+-- What is wrong with the replica: since a fault nothing is stored, and while its number may be used twice nothing is sent.
 function Replica:trouble()
   local waits = self.session:waits()
-  if self.fault or waits < 3 then return self.fault or (self.twice and self.twice.line) or '' end
+  if self.fault or waits < 3 then return self.fault or (self.twice and self.twice.line) or select(2, next(self.ahead)) or '' end
   return ('NOT stored: the program has not answered for %d s'):format(waits)
 end
 
@@ -449,7 +450,10 @@ function Replica:state()
   if self.failed then return '' end
   local problems = self.is_away and ', the shared folder is not there' or ''
   for message, problem in pairs(self.problems) do problems = problems .. (', message %s: %s'):format(message, problem) end
-  return ('%smember %d of %d%s%s'):format(self:trouble() == '' and '' or '; ', self.me, self.members, self.unsaved and ', not stored' or '', problems)
+  local own = self.place and self.place.own .. ', ' or ''
+  local name = self.wrote and self.names[self.wrote.from]
+  local wrote = name and (', %s wrote at %s'):format(name, self.wrote.at) or ''
+  return ('%s%smember %d of %d%s%s%s'):format(self:trouble() == '' and '' or '; ', own, self.me, self.members, self.unsaved and ', not stored' or '', wrote, problems)
 end
 
 return Replica

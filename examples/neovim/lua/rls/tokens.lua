@@ -55,9 +55,7 @@ function M:stop(path, why)
   self.is_stopped = true
   self.twice = { path = path, line = ('NOT sent: number %d is used twice, as %s shows'):format(self.me, vim.fn.fnamemodify(path, ':t')) }
   local text = ('rls: number %d of text %s is used twice: %s, as %s shows. Nothing is taken or sent until that file is gone: docs/USE.md, "A number used twice"')
-  text = text:format(self.me, self.group, why, path):gsub('%c', '?')
-  -- Unlike `nvim_echo` this cuts short what it shows, and keeps the whole: no key has to be pressed for it.
-  vim.schedule(function() vim.cmd(("echohl ErrorMsg | echomsg '%s' | echohl None"):format(text:gsub("'", "''"))) end)
+  files.warn(text:format(self.me, self.group, why, path))
 end
 
 -- Why a file in the shared folder with this token in its name shows that another one than this replica has its number; nil if it doesn't show that.

@@ -30,14 +30,45 @@ function s:note(r, message, problem) abort
   endif
 endfunction
 
-" Refuses a message that knows more operations of this member than the replica has made: then its files are old, or two members have its number.
-function s:guard(r, message, from) abort
-  let at = 21 + 4 * a:r.me
-  if len(a:message) < at + 4 || a:message[5:16] != a:r.head[5:16]
-    return
+" Why the head of a message isn't what the name of its file says; '' if it is, or if this is no head at all, which the session says then.
+function s:fault_of(r, message, from) abort
+  if len(a:message) < 21 + 4 * a:r.members || a:message[0:3] != 0z524C534D
+    return ''
+  elseif a:message[5:16] != a:r.head[5:16]
+    return 'it is of another text'
   endif
-  if rls#files#u32(a:message, at) > rls#files#u32(rls#session#ask(a:r, 's ' . a:r.me)[1], at)
-    throw 'rls: member ' . a:from . ' knows more edits of member ' . a:r.me . ' than this replica has: the files in its folder are old'
+  let sender = rls#files#u32(a:message, 17)
+  return sender == a:from ? '' : 'its head says member ' . sender
+endfunction
+
+" Whether a message counts more operations of this member than the replica has made. Then the files in the replica's folder are old, and whatever is
+" made there has numbers that are taken; or the message is forged. It isn't taken, and until its file is gone, or another one, nothing is sent:
+" sending would part the texts for ever if the files are old. The messages of others are taken. Whom the launcher was told to doubt, by RLS_FORCE=1
+" (docs/USE.md, "Rules"), keeps nobody from sending.
+function s:is_ahead(r, message, from) abort
+  let at = 21 + 4 * a:r.me
+  if len(a:message) < at + 4 || rls#files#u32(a:message, at) <= rls#files#u32(rls#session#ask(a:r, 's ' . a:r.me)[1], at)
+    return 0
+  endif
+  let why = printf('it counts more edits of member %d than this replica has made', a:r.me)
+  call s:note(a:r, 'of ' . a:from, why)
+  let doubted = a:r.folder . '/replica.doubted'
+  if !filereadable(doubted) || index(readfile(doubted), printf('%s-%d-%d %d', a:r.group, a:r.members, a:r.me, a:from)) < 0
+    let file = printf('%s-%d-%d.rlsm', a:r.group, a:from, a:r.me)
+    let a:r.ahead[a:from] = printf('NOT sent: %s counts more edits of member %d than were made here', file, a:r.me)
+    echohl ErrorMsg
+    echomsg printf('rls: %s. Nothing is sent: the files in %s are old, or the number is used twice (docs/USE.md, "A replica is lost"); or somebody forged it: then delete it',
+          \ a:r.ahead[a:from][10:], a:r.folder)
+    echohl None
+  endif
+  return 1
+endfunction
+
+" A member's message is no longer in the way of sending.
+function s:pass(r, from) abort
+  if has_key(a:r.ahead, a:from)
+    call remove(a:r.ahead, a:from)
+    let a:r.is_stopped = 1
   endif
 endfunction
 
@@ -56,13 +87,23 @@ function s:take_from(r, from, changes) abort
   endtry
   if empty(found)
     call s:note(a:r, 'of ' . a:from, '')
+    call s:pass(a:r, a:from)
     return 0
   endif
   let message = found[0]
   if has_key(a:r.taken, a:from) && message ==# a:r.taken[a:from]
+    call s:note(a:r, 'of ' . a:from, '')
+    call s:pass(a:r, a:from)
     return 0
   endif
-  call s:guard(a:r, message, a:from)
+  let fault = s:fault_of(a:r, message, a:from)
+  if fault !=# ''
+    call s:note(a:r, 'of ' . a:from, fault)
+    return 0
+  elseif s:is_ahead(a:r, message, a:from)
+    return 0
+  endif
+  call s:pass(a:r, a:from)
   let request = 'm ' . len(message)
   if rls#exchange#make_room(a:r, len(request) + 1 + len(message))
     let [reply, _, told] = rls#session#ask(a:r, request, message)
@@ -77,6 +118,9 @@ function s:take_from(r, from, changes) abort
     return 0
   endif
   let a:r.changes += rls#session#number(reply, 'applied')
+  if reply !~# '^applied 0 released 0 '
+    let a:r.wrote = [a:from, strftime('%H:%M')]
+  endif
   return 1
 endfunction
 
@@ -125,7 +169,7 @@ endfunction
 function rls#mailbox#write(r, messages) abort
   let due = filter(copy(a:messages), {to, message -> message !=# get(a:r.sent, to, 0z) && !s:is_enough(a:r, to, message)})
   call extend(a:r.last, due)
-  if empty(due) || !s:has_shared(a:r) || !rls#tokens#may(a:r)
+  if empty(due) || !empty(a:r.ahead) || !s:has_shared(a:r) || !rls#tokens#may(a:r)
     return
   endif
   call filter(due, {to, message -> !s:is_written(a:r, to, message)})
@@ -197,7 +241,8 @@ endfunction
 
 function s:tell_cursor(r, reply, bytes, changes) abort
   let word = matchstr(a:reply, '^anchor \zs\S\+$')
-  let line = word . (g:rls_name ==# '' ? '' : ' ' . substitute(g:rls_name, '[[:cntrl:]]', '', 'g'))
+  let name = substitute(g:rls_name ==# '' ? a:r.place.own : g:rls_name, '[[:cntrl:]]', '', 'g')
+  let line = word . (name ==# '' ? '' : ' ' . name)
   if word !=# '' && line !=# a:r.cursor && rls#tokens#may(a:r)
     let a:r.cursor = line
     try
@@ -207,13 +252,13 @@ function s:tell_cursor(r, reply, bytes, changes) abort
   endif
 endfunction
 
-" The place that a member tells of its cursor; '' if there is none. What can't be read as a cursor isn't shown.
+" The place that a member tells of its cursor, and a name; '' where there is none. What can't be read as a cursor isn't shown.
 function s:told_place(path) abort
   try
     let found = rls#files#read(a:path, s:most_cursor)
-    return empty(found) ? '' : matchstr(rls#session#lines_of(found[0])[0], '^[!-~]\+')
-  catch /^rls:\|^Vim(return):E48\d/
-    return ''
+    return empty(found) ? ['', ''] : matchlist(rls#session#lines_of(found[0])[0], '^\([!-~]*\) \?\(.*\)$')[1:2]
+  catch /^rls:\|^Vim(\(return\|let\)):E48\d/
+    return ['', '']
   endtry
 endfunction
 
@@ -226,7 +271,7 @@ function rls#mailbox#show_others(r) abort
     if is_new
       let a:r.places[from] = s:told_place(path)
     endif
-    let word = get(a:r.places, from, '')
+    let word = get(a:r.places, from, ['', ''])[0]
     if is_new || (a:r.is_lookup_due && word !=# '')
       call s:unmark(a:r, from)
       if word !=# ''
@@ -250,16 +295,30 @@ endfunction
 function s:unmark(r, from) abort
   if empty(prop_type_get('rls'))
     call prop_type_add('rls', {'highlight': 'Search', 'override': 1})
+    call prop_type_add('rls name', {'highlight': 'NonText'})
   endif
   call prop_remove({'id': a:from + 1, 'type': 'rls', 'both': 1, 'bufnr': a:r.buf, 'all': 1})
+  if has_key(a:r.labels, a:from)
+    call prop_remove({'id': remove(a:r.labels, a:from), 'type': 'rls name', 'both': 1, 'bufnr': a:r.buf, 'all': 1})
+  endif
 endfunction
 
-" Marks the character after a member's cursor, or the one before it at the end of a line.
+" What a member's cursor is called: what it says itself, or what the circle calls the member.
+function s:called(r, from) abort
+  let told = get(a:r.places, a:from, ['', ''])[1]
+  return strcharpart(strtrans(told ==# '' ? rls#circle#name(a:r, a:from) : told), 0, 40)
+endfunction
+
+" Marks the character after a member's cursor, or the one before it at the end of a line, and has the name behind the line where Vim can show that.
 function s:mark(r, from, place) abort
   let [line, byte] = rls#lines#find(a:r.text, a:place)
   let text = a:r.text.lines[line - 1]
   if text !=# ''
     let from = byte < len(text) ? byte : byte - len(strcharpart(text, strchars(strpart(text, 0, byte)) - 1, 1))
     call prop_add(line, from + 1, {'length': len(strcharpart(strpart(text, from), 0, 1)), 'id': a:from + 1, 'type': 'rls', 'bufnr': a:r.buf})
+  endif
+  let name = s:called(a:r, a:from)
+  if name !=# '' && has('patch-9.0.0130')
+    let a:r.labels[a:from] = prop_add(line, 0, {'type': 'rls name', 'bufnr': a:r.buf, 'text': '  ' . name, 'text_align': 'after'})
   endif
 endfunction

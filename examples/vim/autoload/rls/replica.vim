@@ -17,21 +17,29 @@ function s:learn(r) abort
   let a:r.group = printf('%u', a:r.group)
 endfunction
 
+" Whether a replica is in a folder.
+function rls#replica#is_in(folder) abort
+  let folder = rls#replica#full(a:folder)
+  return getftype(folder . '/replica.gate') !=# '' || getftype(folder . '/replica.rls') !=# ''
+endfunction
+
 " Looks whether a replica is in a folder: the program may have its files open, and store into them, when nobody finds them there any more.
 function rls#replica#look_for(folder) abort
   if !isdirectory(a:folder)
     throw 'rls: there is no folder ' . a:folder
-  elseif getftype(a:folder . '/replica.gate') ==# '' && getftype(a:folder . '/replica.rls') ==# ''
+  elseif !rls#replica#is_in(a:folder)
     throw printf('rls: there is no replica in %s; `rls new GROUP ME MEMBERS` begins one there', a:folder)
   endif
 endfunction
 
-" A replica with its session, which has no buffer as yet.
-function rls#replica#new(folder, shared) abort
-  let r = {'folder': rls#replica#full(a:folder), 'shared': rls#replica#full(a:shared), 'taken': {}, 'sent': {}, 'seen': {}, 'problems': {}, 'failed': '',
+" A replica with its session, which has no buffer as yet. The place is its folder, the shared one, and for a text of a circle the text's name, its
+" plain file if it has one, and what this member is called.
+function rls#replica#new(place) abort
+  let r = {'place': a:place, 'folder': a:place.folder, 'shared': a:place.shared, 'wrote': [], 'taken': {}, 'sent': {}, 'seen': {}, 'problems': {}, 'failed': '',
         \ 'fault': '', 'is_opening': 1, 'told': [], 'silent': 0, 'edition': 0, 'is_cut': 0, 'boundary': 0, 'steps': 0, 'behind': 0,
         \ 'unsaved': 0, 'since': 0, 'waits_until': 0, 'due': -1, 'changes': g:rls_rename_at, 'is_refusal_told': 0, 'shown': -1,
-        \ 'cursor': '', 'places': {}, 'is_lookup_due': 0, 'last': {}, 'marks': {}, 'looked': 0, 'is_away': 0, 'twice': {}, 'is_stopped': 0}
+        \ 'cursor': '', 'places': {}, 'is_lookup_due': 0, 'last': {}, 'marks': {}, 'looked': 0, 'is_away': 0, 'twice': {}, 'is_stopped': 0,
+        \ 'ahead': {}, 'labels': {}}
   call rls#replica#look_for(r.folder)
   if &encoding !=# 'utf-8'
     throw 'rls: Vim has to work in UTF-8: put `set encoding=utf-8` into your vimrc'
@@ -70,7 +78,7 @@ function rls#replica#open_again(r) abort
   call rls#replica#look_for(a:r.folder)
   try
     call rls#session#start(a:r)
-    let [a:r.behind, a:r.boundary, a:r.is_cut, a:r.unsaved, a:r.taken, a:r.seen, a:r.told] = [0, 1, 0, 0, {}, {}, []]
+    let [a:r.behind, a:r.boundary, a:r.is_cut, a:r.unsaved, a:r.taken, a:r.seen, a:r.told, a:r.ahead] = [0, 1, 0, 0, {}, {}, [], {}]
     call rls#mailbox#take(a:r, [])
     let stored = rls#session#lines_of(rls#session#text(a:r))
   catch
