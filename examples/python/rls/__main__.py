@@ -169,6 +169,13 @@ def begin_in(circle: Circle, aside: str, name: str) -> Circle:
     return circle
 
 
+def is_interrupted(error: Optional[BaseException]) -> bool:
+    """Whether this comes of a Ctrl-C: that ends what a round has started too, which may then fail while the round is left."""
+    while error is not None and not isinstance(error, KeyboardInterrupt):
+        error = error.__context__
+    return error is not None
+
+
 def sync(words: argparse.Namespace) -> int:
     circle, only = circle_of(words.path)
     told = ""
@@ -179,6 +186,8 @@ def sync(words: argparse.Namespace) -> int:
             circle, status = one_round(circle, only, words)
             told = ""
         except (Trouble, RlsError, Stale, OSError) as e:
+            if is_interrupted(e):
+                raise KeyboardInterrupt from e
             if not words.watch:
                 raise
             if str(e) != told:

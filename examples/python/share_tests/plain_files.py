@@ -9,10 +9,13 @@ import sys
 import textwrap
 import time
 from typing import Callable, Optional
+from unittest import mock
 
 from rls import Mailbox, Session
+from rls import __main__ as program
 from rls import files, kept_for, note
 from rls.edits import applied
+from rls.errors import RlsError
 from rls.merge import carried
 
 from . import TOP
@@ -434,3 +437,16 @@ def test_watch() -> None:
     finally:
         p.kill()
         p.wait()
+
+
+def test_watch_ends() -> None:
+    """A Ctrl-C ends `rls sync --watch`, also if leaving the round fails, since what it started was ended too."""
+    def interrupted(*words: object) -> None:
+        try:
+            raise KeyboardInterrupt
+        finally:
+            raise RlsError(130, "the session ended")
+
+    _, ben = started("ends")
+    with mock.patch.dict(os.environ, {"RLS_HOME": ben.home}), mock.patch.object(program, "one_round", interrupted):
+        assert program.main(["sync", "--watch", ben.shared]) == 130
