@@ -118,10 +118,10 @@ expect 'the head of what is no message' 4 "$(echo hello | status_of "$rls" head)
 expect 'the head of what is no message: what it means' yes "$(says 'this is no message')"
 expect 'the head of nothing' 4 "$(status_of "$rls" head </dev/null)"
 expect 'the head of a message that was cut off' 4 "$(head -c 28 answer | status_of "$rls" head)"
-for form in 4 9 255; do
-  printf 'RLSM%b%0300d' "\\0$(printf %o $form)" 0 >newer
-  expect "the head of a newer message, form $form" 4 "$(status_of "$rls" head <newer)"
-  expect "the head of a newer message, form $form: what it means" yes "$(says 'a newer program')"
+for byte in 4 9 255; do
+  printf 'RLSM%b%0300d' "\\0$(printf %o $byte)" 0 >newer
+  expect "the head of a newer message, form $byte" 4 "$(status_of "$rls" head <newer)"
+  expect "the head of a newer message, form $byte: what it means" yes "$(says 'a newer program')"
 done
 expect 'the head of a message of no member' 4 "$(printf 'RLSM\3\0\0\0\0\0\0\0\7\0\0\0\2\0\0\0\2\0\0\0\0\0\0\0\0\0\0\0\0' | status_of "$rls" head)"
 expect 'the head of a message that can not be printed' 9 "$("$rls" head <answer >/dev/full 2>err; echo $?)"
