@@ -1,88 +1,45 @@
 -- How often the keeper of a folder failed, from its calls.
-use Rattle.std.proofs.Common.{◌≡◌, ◌⊎◌, ◌∙◌, ◌-◌, ◌^◌, ⊎_elim, ℕ, Bool, true, false, List, [], ◌∷◌, Option, Some, None, sym, ap, inl, inr, arith}
-use Rattle.rls_io.specs.Device.{Rose, one_more}
+use Rattle.std.proofs.Common.{◌≡◌, ◌⊎◌, ◌∙◌, ◌-◌, ◌^◌, ⊎_elim, ℕ, Bool, List, [], ◌∷◌, Option, Some, None, Result, sym, ap, inl, inr, arith}
+use Rattle.rls_io.specs.declared.devices.Found.{Found}
+use Rattle.rls_io.specs.declared.devices.LoadError.{LoadError}
+use Rattle.rls_io.specs.Device.{LoadsWith, Rose, one_more}
 use Rattle.rls_stages.specs.Calls.{CallsNothing, CallsOf, FailsToLoad, FailsToStore, IsKeepersStatus, Loads, Stores}
 use Rattle.rls_session.specs.Calls as session
 use Rattle.rls_session.specs.Calls.{Calls, FailsOnce, IsStatusAfter, Stores as SessionStores, StoresEach}
 use Rattle.rls_cli.specs.Folder.{CountsWith, LoadGives, StoreGives, faults_of}
 use Rattle.rls_cli.specs.declared.folder.FolderKeeper.{FolderKeeper}
-use Rattle.rls_cli.specs.declared.folder.FolderKeeper.TheVariants.{File, Disk, Unknown}
 
-module _ {R A B : Type 0} where
-  loads_ok : (old new : FolderKeeper R A B) → LoadGives old true new → faults_of new ≡ faults_of old
-  loads_ok (File a) (File b) h = h
-  loads_ok (Disk a) (Disk b) h = h
-  loads_ok (Unknown a) (Unknown b) h = let never : true ≡ false = h.0 in cc
-  loads_ok (File a) (Disk b) h = absurd h
-  loads_ok (File a) (Unknown b) h = absurd h
-  loads_ok (Disk a) (File b) h = absurd h
-  loads_ok (Disk a) (Unknown b) h = absurd h
-  loads_ok (Unknown a) (File b) h = absurd h
-  loads_ok (Unknown a) (Disk b) h = absurd h
-
-  loads_err : (old new : FolderKeeper R A B) → LoadGives old false new → (faults_of new ≡ faults_of old) ⊎ (faults_of new ≡ one_more (faults_of old))
-  loads_err (File a) (File b) h = h
-  loads_err (Disk a) (Disk b) h = h
-  loads_err (Unknown a) (Unknown b) h = inr h.1
-  loads_err (File a) (Disk b) h = absurd h
-  loads_err (File a) (Unknown b) h = absurd h
-  loads_err (Disk a) (File b) h = absurd h
-  loads_err (Disk a) (Unknown b) h = absurd h
-  loads_err (Unknown a) (File b) h = absurd h
-  loads_err (Unknown a) (Disk b) h = absurd h
-
-  stores_ok : (old new : FolderKeeper R A B) (bytes : List ℕ) → StoreGives old bytes true new → faults_of new ≡ faults_of old
-  stores_ok (File a) (File b) bytes h = h
-  stores_ok (Disk a) (Disk b) bytes h = h
-  stores_ok (Unknown a) (Unknown b) bytes h = let never : true ≡ false = h.0 in cc
-  stores_ok (File a) (Disk b) bytes h = absurd h
-  stores_ok (File a) (Unknown b) bytes h = absurd h
-  stores_ok (Disk a) (File b) bytes h = absurd h
-  stores_ok (Disk a) (Unknown b) bytes h = absurd h
-  stores_ok (Unknown a) (File b) bytes h = absurd h
-  stores_ok (Unknown a) (Disk b) bytes h = absurd h
-
-  stores_err : (old new : FolderKeeper R A B) (bytes : List ℕ) → StoreGives old bytes false new → (faults_of new ≡ faults_of old) ⊎ (faults_of new ≡ one_more (faults_of old))
-  stores_err (File a) (File b) bytes h = h
-  stores_err (Disk a) (Disk b) bytes h = inr h
-  stores_err (Unknown a) (Unknown b) bytes h = inr h.1
-  stores_err (File a) (Disk b) bytes h = absurd h
-  stores_err (File a) (Unknown b) bytes h = absurd h
-  stores_err (Disk a) (File b) bytes h = absurd h
-  stores_err (Disk a) (Unknown b) bytes h = absurd h
-  stores_err (Unknown a) (File b) bytes h = absurd h
-  stores_err (Unknown a) (Disk b) bytes h = absurd h
-
+module _ {A B : Type 0} (a_load : A → Result Found LoadError → A → Type 0) (b_load : B → Result Found LoadError → B → Type 0) (a_store : A → List ℕ → Bool → A → Type 0) (b_store : B → List ℕ → Bool → B → Type 0) (a_faults : A → ℕ) (b_faults : B → ℕ) where
   -- of all calls one failed at most, and then the status is the keeper's
-  pub counted : {needs stores : Bool} {IsDue : List ℕ → Type 0} {Surely Perhaps : ℕ → Type 0} {untouched : Type 0} {n : ℕ} {old new : FolderKeeper R A B} → CallsOf LoadGives StoreGives needs stores IsDue Surely Perhaps untouched n old new
-      → (faults_of new ≡ faults_of old) ⊎ (IsKeepersStatus n × (faults_of new ≡ one_more (faults_of old)))
+  pub counted : {needs stores : Bool} {IsDue : List ℕ → Type 0} {Surely Perhaps : ℕ → Type 0} {untouched : Type 0} {n : ℕ} {old new : FolderKeeper A B} → CallsOf (LoadsWith (LoadGives a_load b_load a_faults b_faults)) (StoreGives a_store b_store a_faults b_faults) needs stores IsDue Surely Perhaps untouched n old new
+      → (faults_of a_faults b_faults new ≡ faults_of a_faults b_faults old) ⊎ (IsKeepersStatus n × (faults_of a_faults b_faults new ≡ one_more (faults_of a_faults b_faults old)))
   counted {needs} {stores} {IsDue} {Surely} {Perhaps} {untouched} {n} {old} {new} calls = go calls
     where
-      go : CallsOf LoadGives StoreGives needs stores IsDue Surely Perhaps untouched n old new → (faults_of new ≡ faults_of old) ⊎ (IsKeepersStatus n × (faults_of new ≡ one_more (faults_of old)))
-      go (CallsNothing same none shows) = inl (ap faults_of same)
-      go (FailsToLoad l at u) = ⊎_elim (λ same. inl same) (λ more. inr (at, more)) (loads_err old new l)
-      go (Loads l other shows) = inl (loads_ok old new l)
-      go (FailsToStore l some at) = let first = loads_ok old l.between l.loaded in
-          ⊎_elim (λ same. inl (same ∙ first)) (λ more. inr (at, more ∙ ap one_more first)) (stores_err l.between new l.bytes l.stored)
-      go (Stores l some at) = inl (stores_ok l.between new l.bytes l.stored ∙ loads_ok old l.between l.loaded)
+      go : CallsOf (LoadsWith (LoadGives a_load b_load a_faults b_faults)) (StoreGives a_store b_store a_faults b_faults) needs stores IsDue Surely Perhaps untouched n old new → (faults_of a_faults b_faults new ≡ faults_of a_faults b_faults old) ⊎ (IsKeepersStatus n × (faults_of a_faults b_faults new ≡ one_more (faults_of a_faults b_faults old)))
+      go (CallsNothing same none shows) = inl (ap (λ keeper. faults_of a_faults b_faults keeper) same)
+      go (FailsToLoad l at u) = ⊎_elim (λ same. inl same) (λ more. inr (at, more)) (l.1).1
+      go (Loads l other shows) = inl (l.1).1
+      go (FailsToStore l some at) = let first = (l.loaded.1).1 in
+          ⊎_elim (λ same. inl (same ∙ first)) (λ more. inr (at, more ∙ ap one_more first)) l.stored.1
+      go (Stores l some at) = inl (l.stored.1 ∙ (l.loaded.1).1)
 
   -- stores that answer Ok count none
-  each_ok : (files : List (List ℕ)) (old new : FolderKeeper R A B) → StoresEach StoreGives files old new → faults_of new ≡ faults_of old
-  each_ok [] old new h = ap faults_of h
-  each_ok (bytes ∷ files) old new h = each_ok files h.0 new h.2 ∙ stores_ok old h.0 bytes h.1
+  each_ok : (files : List (List ℕ)) (old new : FolderKeeper A B) → StoresEach (StoreGives a_store b_store a_faults b_faults) files old new → faults_of a_faults b_faults new ≡ faults_of a_faults b_faults old
+  each_ok [] old new h = ap (λ keeper. faults_of a_faults b_faults keeper) h
+  each_ok (bytes ∷ files) old new h = each_ok files h.0 new h.2 ∙ (h.1).1
 
   -- the same of a session
-  pub counted_session : {x : SessionStores} {untouched : Type 0} {n : ℕ} {old new : FolderKeeper R A B} → Calls LoadGives StoreGives x untouched n old new → (faults_of new ≡ faults_of old) ⊎ (IsKeepersStatus n × (faults_of new ≡ one_more (faults_of old)))
+  pub counted_session : {x : SessionStores} {untouched : Type 0} {n : ℕ} {old new : FolderKeeper A B} → Calls (LoadsWith (LoadGives a_load b_load a_faults b_faults)) (StoreGives a_store b_store a_faults b_faults) x untouched n old new → (faults_of a_faults b_faults new ≡ faults_of a_faults b_faults old) ⊎ (IsKeepersStatus n × (faults_of a_faults b_faults new ≡ one_more (faults_of a_faults b_faults old)))
   counted_session {x} {untouched} {n} {old} {new} calls = go calls
     where
-      go : Calls LoadGives StoreGives x untouched n old new → (faults_of new ≡ faults_of old) ⊎ (IsKeepersStatus n × (faults_of new ≡ one_more (faults_of old)))
-      go (session.CallsNothing same ten none) = inl (ap faults_of same)
-      go (session.FailsToLoad l at u none) = ⊎_elim (λ same. inl same) (λ more. inr (at, more)) (loads_err old new l)
-      go (session.Loads l status) = last x.failed l.failed status (each_ok x.stored l.at_load l.at_failure l.stored ∙ loads_ok old l.at_load l.loaded)
+      go : Calls (LoadsWith (LoadGives a_load b_load a_faults b_faults)) (StoreGives a_store b_store a_faults b_faults) x untouched n old new → (faults_of a_faults b_faults new ≡ faults_of a_faults b_faults old) ⊎ (IsKeepersStatus n × (faults_of a_faults b_faults new ≡ one_more (faults_of a_faults b_faults old)))
+      go (session.CallsNothing same ten none) = inl (ap (λ keeper. faults_of a_faults b_faults keeper) same)
+      go (session.FailsToLoad l at u none) = ⊎_elim (λ same. inl same) (λ more. inr (at, more)) (l.1).1
+      go (session.Loads l status) = last x.failed l.failed status (each_ok x.stored l.at_load l.at_failure l.stored ∙ (l.loaded.1).1)
         where
-          last : (failed : Option (List ℕ)) → FailsOnce StoreGives failed l.at_failure new → IsStatusAfter failed n → faults_of l.at_failure ≡ faults_of old → (faults_of new ≡ faults_of old) ⊎ (IsKeepersStatus n × (faults_of new ≡ one_more (faults_of old)))
-          last None f status first = inl (ap faults_of f ∙ first)
-          last (Some bytes) f status first = ⊎_elim (λ same. inl (same ∙ first)) (λ more. inr (status, more ∙ ap one_more first)) (stores_err l.at_failure new bytes f)
+          last : (failed : Option (List ℕ)) → FailsOnce (StoreGives a_store b_store a_faults b_faults) failed l.at_failure new → IsStatusAfter failed n → faults_of a_faults b_faults l.at_failure ≡ faults_of a_faults b_faults old → (faults_of a_faults b_faults new ≡ faults_of a_faults b_faults old) ⊎ (IsKeepersStatus n × (faults_of a_faults b_faults new ≡ one_more (faults_of a_faults b_faults old)))
+          last None f status first = inl (ap (λ keeper. faults_of a_faults b_faults keeper) f ∙ first)
+          last (Some bytes) f status first = ⊎_elim (λ same. inl (same ∙ first)) (λ more. inr (status, more ∙ ap one_more first)) f.1
 
 -- at a status
 pub counts_with : (n before after : ℕ) → (after ≡ before) ⊎ (IsKeepersStatus n × (after ≡ one_more before)) → (n ≡ 7 → Rose before after) → CountsWith n before after

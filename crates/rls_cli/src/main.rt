@@ -6,7 +6,7 @@ mod given;
 mod performing;
 mod streams;
 
-use folder::{FolderKeeper, folder_keeper};
+use folder::{FolderKeeper, ReplicaKeeper, folder_keeper};
 use given::words;
 use performing::perform_given;
 use rls_io::StdDevice;
@@ -19,7 +19,7 @@ use streams::{Guard, guard_streams};
 fn keeper<'a>(
     rt: &'a HostRuntime,
     guard: &io::Result<Guard<HostRuntime>>,
-) -> FolderKeeper<&'a HostRuntime> {
+) -> ReplicaKeeper<&'a HostRuntime> {
     match guard {
         Ok(_) => folder_keeper(rt),
         Err(_) => FolderKeeper::Unknown { faults: 0 },

@@ -1,5 +1,5 @@
 use crate::arguments::Arguments;
-use crate::folder::{FolderKeeper, folder_keeper};
+use crate::folder::{ReplicaKeeper, folder_keeper};
 use crate::given::words;
 use crate::performing::{perform, perform_in_folder};
 use crate::watched::{Watch, Watched};
@@ -308,7 +308,7 @@ fn begin_replica(rt: &HostRuntime, kind: Kind) -> Result<(), Fail> {
 /// The status of a session over these devices.
 fn session_status<R: Files>(
     alloc: Global,
-    keeper: &mut FolderKeeper<R>,
+    keeper: &mut ReplicaKeeper<R>,
     input: &mut MemorySource,
     output: &mut MemorySink,
 ) -> Result<u8, Fail> {
@@ -321,7 +321,7 @@ fn session_status<R: Files>(
 /// fail.
 fn session_over<R: Files>(
     alloc: Global,
-    keeper: &mut FolderKeeper<R>,
+    keeper: &mut ReplicaKeeper<R>,
     failing_reads: &[u64],
     failing_writes: &[u64],
 ) -> Result<(u8, usize), Fail> {

@@ -2,6 +2,8 @@
 use Rattle.std.proofs.Common.{◌≡◌, ◌≢◌, ◌∙◌, ◌⊎◌, ◌<◌, ⊎_elim, inl, inr, ℕ, Bool, true, false, List, [], ◌∷◌, length, Option, Some, None, IfSome, refl, sym, subst, arith}
 use Rattle.rls_ident.specs.Lists.{IsIn}
 use Rattle.rls_ident.proofs.Members.{in_left, in_right}
+use Rattle.std.specs.Prelude.{is_ok}
+use Rattle.rls_io.specs.Device.{LoadsWith}
 use Rattle.rls_journal.specs.Areas.{Areas, kept}
 use Rattle.rls_journal.specs.Disk.{LeavesOnly}
 use Rattle.rls_journal.specs.Keeper.{IsAtRest, IsOldOrNew, LoadGives, Rests, StoreGives}
@@ -38,7 +40,7 @@ stored_later bytes first (Some old) mid new may_leave any h k = subst (λ o. Has
 
 module _ {D : Type 0} (retries : Type 0) (seen : D → Option Areas) (may_leave : D → Areas → Type 0) (moment : D → ℕ) (left_since : D → ℕ → Areas → Type 0) (only : (disk : D) (c : Areas) → left_since disk (moment disk) c → may_leave disk c) {K : Type 0} (disk : K → D) where
   abbrev load : K → Bool → K → Type 0
-  load before ok after = LoadGives retries seen may_leave moment left_since ok (disk before) (disk after)
+  load = LoadsWith (λ before answer after. LoadGives retries seen may_leave moment left_since (is_ok answer) (disk before) (disk after))
 
   abbrev store : K → List ℕ → Bool → K → Type 0
   store before bytes ok after = StoreGives retries seen may_leave moment left_since bytes ok (disk before) (disk after)
@@ -140,22 +142,22 @@ module _ {D : Type 0} (retries : Type 0) (seen : D → Option Areas) (may_leave 
 
     -- a load leaves the file as it was
     loaded_rests : (s : Areas) (mid : K) → seen (disk old) ≡ Some s → Rests retries s (may_leave (disk old)) → load old true mid → RestsWith mid (kept s)
-    loaded_rests s mid is rest l = record { areas = s; is = (l.looks).same ∙ is; same = refl; rest = rest_again retries seen may_leave moment left_since only s (disk old) (disk mid) is rest l.looks }
+    loaded_rests s mid is rest l = record { areas = s; is = ((l.1).looks).same ∙ is; same = refl; rest = rest_again retries seen may_leave moment left_since only s (disk old) (disk mid) is rest (l.1).looks }
 
     survived_at : (s : Areas) → seen (disk old) ≡ Some s → Rests retries s (may_leave (disk old)) → Called → Leaves old new (IsOldOrOneOf (kept s) (tried x))
     survived_at s is rest (CallsNothing same ten none) =
         subst (λ (k : K). Leaves old k (IsOldOrOneOf (kept s) (tried x))) (sym same) (weaker old old (IsOld (kept s)) (IsOldOrOneOf (kept s) (tried x)) (λ c p. inl p) (uncalled_only retries seen may_leave moment left_since only (disk old) (kept s) (rest_kept retries seen may_leave moment left_since only s (disk old) rest)))
-    survived_at s is rest (FailsToLoad l at u none) = weaker old new (IsOld (kept s)) (IsOldOrOneOf (kept s) (tried x)) (λ c p. inl p) (loaded_only retries seen may_leave moment left_since only false (disk old) (disk new) s is rest l)
+    survived_at s is rest (FailsToLoad l at u none) = weaker old new (IsOld (kept s)) (IsOldOrOneOf (kept s) (tried x)) (λ c p. inl p) (loaded_only retries seen may_leave moment left_since only false (disk old) (disk new) s is rest l.1)
     survived_at s is rest (Loads l status) =
-        let front = weaker old l.at_load (IsOld (kept s)) (IsOldOrOneOf (kept s) (tried x)) (λ c p. inl p) (loaded_only retries seen may_leave moment left_since only true (disk old) (disk l.at_load) s is rest l.loaded) in
+        let front = weaker old l.at_load (IsOld (kept s)) (IsOldOrOneOf (kept s) (tried x)) (λ c p. inl p) (loaded_only retries seen may_leave moment left_since only true (disk old) (disk l.at_load) s is rest l.loaded.1) in
         both old l.at_load new (IsOldOrOneOf (kept s) (tried x)) front (tried_only x l.at_load l.at_failure new (kept s) (loaded_rests s l.at_load is rest l.loaded) l.stored l.failed)
 
     turns_at : (s : Areas) → seen (disk old) ≡ Some s → Rests retries s (may_leave (disk old)) → Called → InTurn (kept s) x.stored x.failed old new
     turns_at s is rest (CallsNothing same ten none) =
         subst (λ (y : Stores). InTurn (kept s) y.stored y.failed old new) (sym none) (subst (λ (k : K). Leaves old k (IsOld (kept s))) (sym same) (uncalled_only retries seen may_leave moment left_since only (disk old) (kept s) (rest_kept retries seen may_leave moment left_since only s (disk old) rest)))
-    turns_at s is rest (FailsToLoad l at u none) = subst (λ (y : Stores). InTurn (kept s) y.stored y.failed old new) (sym none) (loaded_only retries seen may_leave moment left_since only false (disk old) (disk new) s is rest l)
+    turns_at s is rest (FailsToLoad l at u none) = subst (λ (y : Stores). InTurn (kept s) y.stored y.failed old new) (sym none) (loaded_only retries seen may_leave moment left_since only false (disk old) (disk new) s is rest l.1)
     turns_at s is rest (Loads l status) =
-        turns_after x.stored x.failed old l.at_load new (kept s) (loaded_only retries seen may_leave moment left_since only true (disk old) (disk l.at_load) s is rest l.loaded)
+        turns_after x.stored x.failed old l.at_load new (kept s) (loaded_only retries seen may_leave moment left_since only true (disk old) (disk l.at_load) s is rest l.loaded.1)
         (turns x.stored x.failed l.at_load l.at_failure new (kept s) (loaded_rests s l.at_load is rest l.loaded) l.stored l.failed)
 
     -- a stop at any moment
@@ -187,13 +189,13 @@ module _ {D : Type 0} (retries : Type 0) (seen : D → Option Areas) (may_leave 
         go : Called → HasDue seen may_leave (IsLastDue ds) (disk old) (disk new)
         go (CallsNothing same ten none) = none_some none
         go (FailsToLoad l at u none) = none_some none
-        go (Loads l status) = let q = stored x.stored x.failed l.at_load l.at_failure some status l.stored l.failed all in (q.0, q.1, subst (λ o. HasStored q.0 o (seen (disk new)) (may_leave (disk new))) ((l.loaded).looks.same) q.2)
+        go (Loads l status) = let q = stored x.stored x.failed l.at_load l.at_failure some status l.stored l.failed all in (q.0, q.1, subst (λ o. HasStored q.0 o (seen (disk new)) (may_leave (disk new))) ((l.loaded.1).looks.same) q.2)
 
     -- at rest, but after a store that failed
     pub rests_after : Called → n ≢ 7 → n ≢ 10 → IsSound retries seen may_leave (disk old) → IsAtRest retries seen may_leave (disk new)
     rests_after (CallsNothing same ten none) seven other sound = absurd (other ten)
     rests_after (FailsToLoad l at u none) seven other sound = absurd (⊎_elim seven other at)
-    rests_after (Loads l status) seven other sound = go x.failed l.failed status (each_rest x.stored l.at_load l.at_failure ((l.loaded).rest refl sound) l.stored)
+    rests_after (Loads l status) seven other sound = go x.failed l.failed status (each_rest x.stored l.at_load l.at_failure ((l.loaded.1).rest refl sound) l.stored)
       where
         each_rest : (files : List (List ℕ)) (k m : K) → IsAtRest retries seen may_leave (disk k) → StoresEach store files k m → IsAtRest retries seen may_leave (disk m)
         each_rest [] k m rest h = subst (λ (y : K). IsAtRest retries seen may_leave (disk y)) (sym h) rest

@@ -1,5 +1,6 @@
 //! Laws of groups. Each function runs nothing and takes no memory; its contract states the fact.
 
+ghost use Rattle.rls_io.specs.Device.{LoadsWith};
 ghost use Rattle.rls_journal.specs.Keeper.{StoreGives};
 ghost use Rattle.rls_groups.specs.Examples.{SessionsAreEvents};
 ghost use Rattle.rls_groups.specs.Groups.{GroupsConverge};
@@ -37,9 +38,9 @@ pub fn one_round()
 /// as the run leaves it that came to its end; and which of the two, by the status. A session that stores more than once is one event for each
 /// of its stores. This is so whatever the other members do before, between and after.
 pub fn runs_are_events<K: Keeper, S: Source, W: Sink>()
-    ensures commands { CommandsLeave K.file K.faults K.load_gives K.store_gives S.left S.faults W.told W.faults }
-    ensures sessions { SessionsLeave S W K.load_gives K.store_gives }
-    ensures stores { StoresLeave S W K.load_gives K.store_gives }
+    ensures commands { CommandsLeave K.file K.faults (LoadsWith K.load_gives) K.store_gives S.left S.faults W.told W.faults }
+    ensures sessions { SessionsLeave S W (LoadsWith K.load_gives) K.store_gives }
+    ensures stores { StoresLeave S W (LoadsWith K.load_gives) K.store_gives }
 {}
 
 /// The same of a stop at any moment, by the clauses of `rls_groups`. Of a session that stores more than once it leaves the file of one of its

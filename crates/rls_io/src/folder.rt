@@ -2,7 +2,7 @@
 
 ghost use Rattle.std.specs.Prelude.{◌≡◌, IfOk, IfSome, OnOk, Some, None};
 ghost use Rattle.std.specs.Io.KnownBytes.{Appends};
-ghost use Rattle.rls_io.specs.Device.{Loads};
+ghost use Rattle.rls_io.specs.Device.{Loads, IsWithin};
 ghost use Rattle.rls_io.specs.Folder.{keeper_faults};
 
 use crate::devices::{Found, Keeper, LoadError, StoreError};
@@ -40,6 +40,7 @@ impl<R: Files> FileKeeper<R> {
 // What is found of the bytes that the reader gives, of which at most `limit` are wanted.
 fn found_in<F: Read + Drop>(alloc: Global, file: F, limit: u64) -> io::Result<Found>
     ensures found { IfOk result (λ found. IfSome (F.remaining file) (λ bytes. Loads (Some bytes) limit found)) }
+    ensures within { IfOk result (IsWithin limit) }
 {
     let mut bytes = Vec::new(alloc);
     file.take(limit.saturating_add(1)).read_to_end(&mut bytes)?;
@@ -64,7 +65,9 @@ fn sync_folder<R: Files>(rt: &R) -> io::Result<()> {
 
 // Reads the file, of which at most `limit` bytes are wanted. The folder is synced before, since the file that is read may
 // have got its name right before a stop.
-fn read_kept<R: Files>(rt: &R, alloc: Global, limit: u64) -> io::Result<Found> {
+fn read_kept<R: Files>(rt: &R, alloc: Global, limit: u64) -> io::Result<Found>
+    ensures within { IfOk result (IsWithin limit) }
+{
     sync_folder(rt)?;
     match File::open(rt, KEPT) {
         Ok(file) => found_in(alloc, file, limit),

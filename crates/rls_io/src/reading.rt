@@ -1,7 +1,7 @@
 //! Reading an input to its end.
 
-ghost use Rattle.std.specs.Prelude.{◌≡◌, ◌≢◌, ◌+◌, ◌^◌, ◌<◌, ◌≤◌, ℕ, length, Err, IfOk, OnErr};
-ghost use Rattle.rls_io.specs.Device.{Rose, Takes, TakesAll};
+ghost use Rattle.std.specs.Prelude.{◌≡◌, ◌≢◌, ◌+◌, ◌^◌, ◌<◌, ◌≤◌, ℕ, List, length, Err, IfOk, OnErr};
+ghost use Rattle.rls_io.specs.Device.{Rose, Takes, TakesAll, Passes, PassesAll, PassesAndFails};
 ghost use Rattle.rls_io.specs.declared.reading.ReadError.TheVariants as read;
 
 use crate::devices::{Failed, Source};
@@ -48,6 +48,12 @@ pub fn read_all<S: Source>(alloc: Global, source: &mut S, limit: u64) -> Result<
     ensures fault { result ≡ Err read.Fault → Rose (S.faults source.old) (S.faults source.new) }
     ensures err { OnErr result (result ≢ Err read.TooLarge → (n : ℕ) × (n ≤ limit) × Takes (S.left source.old) (S.left source.new) n) }
     ensures never_falls { S.faults source.old ≤ S.faults source.new }
+
+    // What the calls of the source gave, also if it doesn't tell its input.
+    ensures gives { IfOk result (λ bytes. PassesAll S.read_gives bytes.items source.old source.new) }
+    ensures gives_more { result ≡ Err read.TooLarge → (bytes : List ℕ) × (length bytes ≡ limit + 1) × Passes S.read_gives bytes source.old source.new }
+    ensures gives_part { result ≡ Err read.Fault → (bytes : List ℕ) × (length bytes ≤ limit) × PassesAndFails S.read_gives bytes source.old source.new }
+    ensures gives_some { result ≡ Err read.OutOfMemory → (bytes : List ℕ) × (length bytes ≤ limit) × Passes S.read_gives bytes source.old source.new }
 {
     let mut bytes = Vec::new(alloc);
     let mut buffer = [0; STEP];

@@ -2,7 +2,7 @@
 
 ghost use Rattle.std.specs.Prelude.{◌≡◌, ◌≤◌, ℕ, List, Option, Some, is_ok, IfOk, OnOk, OnErr, IfSome, IsErrOf};
 ghost use Rattle.std.specs.Option.{option_map};
-ghost use Rattle.rls_io.specs.Device.{Rose, Loads, Stores, Keeps, one_more};
+ghost use Rattle.rls_io.specs.Device.{Rose, Loads, Stores, Keeps, IsWithin, one_more};
 ghost use Rattle.rls_io.specs.declared.devices.LoadError.TheVariants as load;
 ghost use Rattle.rls_io.specs.declared.devices.StoreError.TheVariants as store;
 ghost use Rattle.rls_journal.specs.Areas.{Areas, kept};
@@ -62,6 +62,7 @@ fn write_file<D: Disk>(disk: &mut D, bytes: &[u8]) -> Result<(), Failed>
 /// The file that the gate names, of which at most `limit` bytes are wanted.
 fn find<D: Disk>(alloc: Global, disk: &mut D, limit: u64) -> Result<Found, LoadError>
     ensures found { IfOk result (λ found. IfSome (D.seen disk.old) (λ s. Loads (kept s) limit found)) }
+    ensures within { IfOk result (IsWithin limit) }
     ensures rest { OnOk result (IsSound D.retries D.seen D.may_leave disk.old → IsAtRest D.retries D.seen D.may_leave disk.new) }
     ensures looks { Looks D.retries D.seen D.may_leave D.moment D.left_since disk.old disk.new }
     ensures counted { IsErrOf result load.Failed → D.faults disk.new ≡ one_more (D.faults disk.old) }
@@ -80,7 +81,7 @@ impl<D: Disk> Keeper for DiskKeeper<D> {
 
     ghost faults = { λ k. D.faults (disk_of k) };
 
-    ghost load_gives = { λ old ok new. LoadGives D.retries D.seen D.may_leave D.moment D.left_since ok (disk_of old) (disk_of new) };
+    ghost load_gives = { λ old answer new. LoadGives D.retries D.seen D.may_leave D.moment D.left_since (is_ok answer) (disk_of old) (disk_of new) };
 
     ghost store_gives = { λ old bytes ok new. StoreGives D.retries D.seen D.may_leave D.moment D.left_since bytes ok (disk_of old) (disk_of new) };
 
@@ -88,6 +89,7 @@ impl<D: Disk> Keeper for DiskKeeper<D> {
         ensures found { IfOk result (λ found. IfSome (file_told D.seen self.old) (λ kept. Loads kept limit found)) }
         ensures told { IfOk result (λ found. IfSome (file_told D.seen self.new) (λ kept. Loads kept limit found)) }
         ensures same { Keeps (file_told D.seen self.old) (file_told D.seen self.new) }
+        ensures within { IfOk result (IsWithin limit) }
         ensures gives { LoadGives D.retries D.seen D.may_leave D.moment D.left_since (is_ok result) (disk_of self.old) (disk_of self.new) }
         ensures counted { IsErrOf result load.Failed → D.faults (disk_of self.new) ≡ one_more (D.faults (disk_of self.old)) }
         ensures uncounted { (IsErrOf result load.Failed → ⊥) → D.faults (disk_of self.new) ≡ D.faults (disk_of self.old) }

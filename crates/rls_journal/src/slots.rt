@@ -1,7 +1,7 @@
 //! Loading and storing, in the device calls of which they consist.
 
 ghost use Rattle.std.specs.Prelude.{◌≡◌, ◌-◌, ◌<◌, ◌≤◌, [], ℕ, length, Option, Some, None, IfOk, OnOk, IfSome, IsErrOf};
-ghost use Rattle.rls_io.specs.Device.{Rose, Loads, one_more};
+ghost use Rattle.rls_io.specs.Device.{IsWithin, Rose, Loads, one_more};
 ghost use Rattle.rls_io.specs.declared.devices.LoadError.TheVariants as load;
 ghost use Rattle.rls_journal.specs.Areas.{Areas, area_of, named_by, file_of, kept};
 ghost use Rattle.rls_journal.specs.Disk.{CountsFaults, Tears, IsDurable, IsDurableAt, IsUnchanged, Changes, StaysDirty};
@@ -72,6 +72,7 @@ pub fn read_file<D: Disk>(
 ) -> Result<Found, LoadError>
     requires slot { slot < 2 }
     ensures found { IfOk result (λ found. IfSome (D.seen disk.old) (λ s. Loads (Some (file_of (area_of s slot))) limit found)) }
+    ensures within { IfOk result (IsWithin limit) }
     ensures unchanged { IsUnchanged D.seen D.may_leave D.moment D.left_since disk.old disk.new }
     ensures counted { IsErrOf result load.Failed → D.faults disk.new ≡ one_more (D.faults disk.old) }
     ensures uncounted { (IsErrOf result load.Failed → ⊥) → D.faults disk.new ≡ D.faults disk.old }

@@ -1,7 +1,7 @@
 //! A session over the kept file.
 
 ghost use Rattle.std.specs.Prelude.{◌≡◌, ◌≤◌, ℕ, List, length, false, Some, Ok, IfSome, OnOk};
-ghost use Rattle.rls_io.specs.Device.{Rose};
+ghost use Rattle.rls_io.specs.Device.{LoadsWith, Rose};
 ghost use Rattle.rls_codec.specs.CodecLaws.{IsBytes};
 ghost use Rattle.rls_model.specs.Receiving.{State};
 ghost use Rattle.rls_stages.specs.Endings.{Writes};
@@ -66,7 +66,7 @@ pub fn serve<K: Keeper, S: Source, W: Sink, E: Sink>(
         → Serves result bytes (session_in t given) (K.file keeper.new) (W.told output.old) (W.told output.new) }
 
     // The same for every file, whether or not it is that of a history, and which calls are made, of which devices, and which of them fail.
-    ensures ends { SessionEnds K.load_gives K.store_gives ((input.new ≡ input.old) × (output.new ≡ output.old)) result keeper.old keeper.new
+    ensures ends { SessionEnds (LoadsWith K.load_gives) K.store_gives ((input.new ≡ input.old) × (output.new ≡ output.old)) result keeper.old keeper.new
         (devices K.file K.faults S.left S.faults W.told W.faults keeper.old input.old output.old) (devices K.file K.faults S.left S.faults W.told W.faults keeper.new input.new output.new) }
     // The line that goes with the status is written to `errors`.
     ensures line { IfSome (line_at (due (K.file keeper.old) (S.left input.old)) result) (λ line.
@@ -94,7 +94,7 @@ fn perform<K: Keeper, S: Source, W: Sink>(
     input: &mut S,
     output: &mut W,
 ) -> Result<(), Failure>
-    ensures ends { (n : ℕ) → IsStatusOf result n → SessionEnds K.load_gives K.store_gives ((input.new ≡ input.old) × (output.new ≡ output.old)) n keeper.old keeper.new
+    ensures ends { (n : ℕ) → IsStatusOf result n → SessionEnds (LoadsWith K.load_gives) K.store_gives ((input.new ≡ input.old) × (output.new ≡ output.old)) n keeper.old keeper.new
         (devices K.file K.faults S.left S.faults W.told W.faults keeper.old input.old output.old) (devices K.file K.faults S.left S.faults W.told W.faults keeper.new input.new output.new) }
     ensures line { (n : ℕ) → IsStatusOf result n → IfSome (line_at (due (K.file keeper.old) (S.left input.old)) n) (λ line. line ≡ line_of result n) }
 {

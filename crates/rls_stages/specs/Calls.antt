@@ -1,5 +1,10 @@
 -- Which calls of the keeper were made, in the words with which the keeper says what a call makes of it.
-use Rattle.std.specs.Prelude.{◌≡◌, ◌≢◌, ◌⊎◌, ℕ, List, Bool, true, false, IsTrue, IsFalse, Result, Ok, Err}
+use Rattle.std.specs.Prelude.{◌≡◌, ◌≢◌, ◌⊎◌, ℕ, List, Bool, true, false, IsTrue, IsFalse, Option, Result, Ok, Err}
+use Rattle.rls_ident.specs.declared.limits.TheConstants.{FILE_BYTES}
+use Rattle.rls_io.specs.declared.devices.Found.{Found}
+use Rattle.rls_io.specs.declared.devices.LoadError.{LoadError}
+use Rattle.rls_io.specs.declared.devices.LoadError.TheVariants as load_error
+use Rattle.rls_io.specs.Device.{HasFound}
 use Rattle.rls_stages.specs.declared.errors.OpenError.{OpenError}
 use Rattle.rls_stages.specs.declared.errors.OpenError.TheVariants.{Command, KeeperFault, OutOfMemory}
 
@@ -11,6 +16,17 @@ HasLoaded gives (Ok x) old new = gives old true new
 HasLoaded gives (Err (Command e)) old new = gives old true new
 HasLoaded gives (Err KeeperFault) old new = gives old false new
 HasLoaded gives (Err OutOfMemory) old new = (new ≡ old) ⊎ gives old true new ⊎ gives old false new
+
+-- the keeper was called once, to load, and found a file of which this holds
+abbrev pub Finds : {K : Type 0} → (K → Result Found LoadError → K → Type 0) → (Option (List ℕ) → Type 0) → K → K → Type 0
+Finds load Holds old new = (kept : Option (List ℕ)) × HasFound load FILE_BYTES kept old new × Holds kept
+
+-- it found a file of which this holds, or it failed; if memory ran out, that may have been before the load, in it or after it
+abbrev pub FindsUnlessFailed : {K X : Type 0} → (K → Result Found LoadError → K → Type 0) → (Option (List ℕ) → Type 0) → Result X OpenError → K → K → Type 0
+FindsUnlessFailed load Holds (Ok x) old new = Finds load Holds old new
+FindsUnlessFailed load Holds (Err (Command e)) old new = Finds load Holds old new
+FindsUnlessFailed load Holds (Err KeeperFault) old new = load old (Err load_error.Failed) new
+FindsUnlessFailed load Holds (Err OutOfMemory) old new = (new ≡ old) ⊎ Finds load (λ _. Unit {0}) old new ⊎ load old (Err load_error.OutOfMemory) new
 
 -- ---- of a command
 

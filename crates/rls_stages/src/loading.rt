@@ -1,12 +1,12 @@
 //! The kept file, loaded and opened.
 
 ghost use Rattle.std.specs.Prelude.{◌≡◌, ◌≢◌, ◌≤◌, Err, IfErr, IfOk, IfSome};
-ghost use Rattle.rls_io.specs.Device.{Rose, Keeps};
+ghost use Rattle.rls_io.specs.Device.{Rose, Keeps, LoadsWith};
 ghost use Rattle.rls_io.specs.Memory.{bytes_of};
 ghost use Rattle.rls_file.specs.ReadingFiles.{file_of};
 ghost use Rattle.rls_seen.specs.Sane.{IsSane};
 ghost use Rattle.rls_file.specs.Stored.{AreWritable};
-ghost use Rattle.rls_stages.specs.Calls.{HasLoaded};
+ghost use Rattle.rls_stages.specs.Calls.{FindsUnlessFailed, HasLoaded};
 ghost use Rattle.rls_stages.specs.KeptFile.{loaded, replica_of, replica_in};
 ghost use Rattle.rls_stages.specs.Errors.{Gives, IsOpenError, of_open};
 
@@ -27,7 +27,9 @@ pub fn load<K: Keeper>(alloc: Global, keeper: &mut K) -> Result<Option<Vec<u8>>,
     ensures never_falls { K.faults keeper.old ≤ K.faults keeper.new }
     ensures kept { Keeps (K.file keeper.old) (K.file keeper.new) }
     ensures errors { IfErr result IsOpenError }
-    ensures calls { HasLoaded K.load_gives result keeper.old keeper.new }
+    ensures calls { HasLoaded (LoadsWith K.load_gives) result keeper.old keeper.new }
+    // Also if the keeper doesn't tell its file: these are the bytes of the file that the load found.
+    ensures found { FindsUnlessFailed K.load_gives (λ kept. Gives of_open bytes_of result (loaded kept)) result keeper.old keeper.new }
 {
     match keeper.load(alloc, FILE_BYTES) {
         Err(LoadError::Failed) => Err(OpenError::KeeperFault),
@@ -53,7 +55,9 @@ pub fn open<K: Keeper>(alloc: Global, keeper: &mut K) -> Result<Replica, OpenErr
     ensures never_falls { K.faults keeper.old ≤ K.faults keeper.new }
     ensures kept { Keeps (K.file keeper.old) (K.file keeper.new) }
     ensures errors { IfErr result IsOpenError }
-    ensures calls { HasLoaded K.load_gives result keeper.old keeper.new }
+    ensures calls { HasLoaded (LoadsWith K.load_gives) result keeper.old keeper.new }
+    // Also if the keeper doesn't tell its file: this is the replica of the file that the load found.
+    ensures found { FindsUnlessFailed K.load_gives (λ kept. Gives of_open (λ replica. replica) result (replica_in (loaded kept))) result keeper.old keeper.new }
 {
     match load(alloc, keeper) {
         Err(error) => Err(error),

@@ -1,4 +1,5 @@
 pub mod Alike
+mod Answered
 mod Called
 mod Closing
 mod EditsAlone

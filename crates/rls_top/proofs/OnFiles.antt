@@ -33,7 +33,7 @@ sends_so (Send to) (Some kept) s opened sent = subst (λ (r : Result Seen Comman
 sends_so _ file s opened sent = tt
 
 -- a file that was opened can be used
-ok_is : (r : Result Seen CommandError) (s : Seen) → r ≡ Ok s → IsOk r
+pub ok_is : (r : Result Seen CommandError) (s : Seen) → r ≡ Ok s → IsOk r
 ok_is r s e = subst (λ (x : Result Seen CommandError). IsOk x) (sym e) refl
 
 pub usable_so : (file : Option (Option (List ℕ))) (s : Seen) → IfSome file (λ kept. replica_in (loaded kept) ≡ Ok s) → IfSome file IsUsable

@@ -4,6 +4,7 @@ pub mod Due
 pub mod Endings
 pub mod Stages
 pub mod Calls
+pub mod Answered
 pub mod Running
 pub mod Headline
 pub mod Groups

@@ -1,14 +1,16 @@
 //! The commands.
 
 ghost use Rattle.std.specs.Prelude.{◌≡◌, ◌≢◌, ◌≤◌, ℕ, map, string_bytes, None, IfSome, OnOk, OnErr, Err, is_ok};
-ghost use Rattle.rls_io.specs.Device.{Rose, Keeps};
+ghost use Rattle.rls_io.specs.Device.{Rose, Keeps, LoadsWith};
 ghost use Rattle.rls_io.specs.Memory.{bytes_of};
 ghost use Rattle.rls_stages.specs.Endings.{Writes};
 ghost use Rattle.rls_stages.specs.KeptFile.{LeavesFile};
-ghost use Rattle.rls_top.specs.Due.{due};
+ghost use Rattle.rls_top.specs.Answered.{HasStored, HasWritten, Performs, has_stored};
+ghost use Rattle.rls_top.specs.Due.{due, due_of_words};
 ghost use Rattle.rls_top.specs.Endings.{line_at};
 ghost use Rattle.rls_top.specs.Headline.{CommandMeans};
 ghost use Rattle.rls_top.specs.Running.{CommandEnds, FinishEnds, StageEnds};
+ghost use Rattle.rls_top.specs.Stages.{IsStatusOf};
 ghost use Rattle.rls_top.specs.Words.{command_of};
 
 use crate::made::Made;
@@ -62,7 +64,10 @@ pub fn run<K: Keeper, S: Source, W: Sink, E: Sink>(
     ensures means { CommandMeans (map string_bytes words.now) result (K.file keeper.old) (K.file keeper.new) (S.left input.old) (W.told output.old) (W.told output.new) (Rose (E.faults errors.old) (E.faults errors.new)) (E.told errors.old) (E.told errors.new) }
 
     // For every file, whether or not it is that of a history: the status, what is written and stored, which calls are made, of which devices, and which of them fail.
-    ensures ends { CommandEnds K.file K.faults K.load_gives K.store_gives S.left S.faults W.told W.faults (map string_bytes words.now) result keeper.old keeper.new input.old input.new output.old output.new }
+    ensures ends { CommandEnds K.file K.faults (LoadsWith K.load_gives) K.store_gives S.left S.faults W.told W.faults (map string_bytes words.now) result keeper.old keeper.new input.old input.new output.old output.new }
+    // Also of devices that tell nothing: what was stored and written is what is called for by the file that the load found and by the bytes that
+    // the reads gave.
+    ensures performs { Performs K.load_gives K.store_gives S.read_gives W.write_gives (due (map string_bytes words.now)) result keeper.old keeper.new input.old input.new output.old output.new }
     // The line that goes with the status is written to `errors`, or the lines that tell refused operations.
     ensures line { IfSome (line_at (due (map string_bytes words.now) (K.file keeper.old) (S.left input.old)) result) (λ line.
         Writes (Rose (E.faults errors.old) (E.faults errors.new)) (E.told errors.old) (E.told errors.new) line) }
@@ -79,7 +84,8 @@ fn perform<K: Keeper, S: Source, W: Sink>(
     input: &mut S,
     output: &mut W,
 ) -> Result<Made, Failure>
-    ensures ends { StageEnds K.file K.faults K.load_gives K.store_gives S.left S.faults W.told W.faults (command_of (map string_bytes words.now)) result keeper.old keeper.new input.old input.new output.old output.new }
+    ensures ends { StageEnds K.file K.faults (LoadsWith K.load_gives) K.store_gives S.left S.faults W.told W.faults (command_of (map string_bytes words.now)) result keeper.old keeper.new input.old input.new output.old output.new }
+    ensures performs { (n : ℕ) → IsStatusOf result n → Performs K.load_gives K.store_gives S.read_gives W.write_gives (due_of_words (command_of (map string_bytes words.now))) n keeper.old keeper.new input.old input.new output.old output.new }
 {
     match parsed(words) {
         None => Err(Failure::NoCommand),
@@ -101,6 +107,8 @@ fn finish<K: Keeper, W: Sink>(
     output: &mut W,
 ) -> Result<(), DeviceError>
     ensures ends { FinishEnds K.file K.faults K.store_gives W.told W.faults made.now result keeper.old keeper.new output.old output.new }
+    ensures stores { HasStored K.store_gives (bytes_of made.now.stored) (has_stored result) keeper.old keeper.new }
+    ensures wrote { HasWritten W.write_gives made.now.report.items result output.old output.new }
 {
     match store(alloc, made, keeper) {
         Err(StoreError::Failed) => Err(DeviceError::KeeperFault),
@@ -121,6 +129,7 @@ fn store<K: Keeper>(alloc: Global, made: &Made, keeper: &mut K) -> Result<(), St
     ensures uncounted { result ≢ Err StoreError.Failed → K.faults keeper.new ≡ K.faults keeper.old }
     ensures never_falls { K.faults keeper.old ≤ K.faults keeper.new }
     ensures calls { IfSome (bytes_of made.now.stored) (λ bytes. K.store_gives keeper.old bytes (is_ok result) keeper.new) }
+    ensures stores { HasStored K.store_gives (bytes_of made.now.stored) (is_ok result) keeper.old keeper.new }
 {
     match &made.stored {
         None => Ok(()),

@@ -1,18 +1,19 @@
 //! What a command makes.
 
 ghost use Rattle.std.specs.Prelude.{◌≡◌, ◌≢◌, ◌≤◌, [], Some, Err, IfOk, IfErr, IfSome, IsErr, IsSome, IsTrue, IsFalse};
-ghost use Rattle.rls_io.specs.Device.{Rose, Keeps};
+ghost use Rattle.rls_io.specs.Device.{Rose, Keeps, LoadsWith};
 ghost use Rattle.rls_report.specs.Reports.{new_text};
 ghost use Rattle.rls_seen.specs.Sane.{IsSane};
 ghost use Rattle.rls_seen.specs.Seen.{fresh};
 ghost use Rattle.rls_file.specs.Stored.{AreWritable};
-ghost use Rattle.rls_stages.specs.Calls.{HasLoaded};
+ghost use Rattle.rls_stages.specs.Calls.{FindsUnlessFailed, HasLoaded};
 ghost use Rattle.rls_stages.specs.Errors.{of_open, of_work};
 ghost use Rattle.rls_stages.specs.KeptFile.{loaded, saved};
+ghost use Rattle.rls_top.specs.Answered.{HasCome, ReadsUnlessFailed};
 ghost use Rattle.rls_top.specs.declared.words.Command.TheVariants as commands;
-ghost use Rattle.rls_top.specs.Due.{due_of_fresh, due_of_new, error_of_numbers, calls_keeper, stores};
+ghost use Rattle.rls_top.specs.Due.{calls_keeper, due_at, due_of_command, due_of_fresh, due_of_new, error_of_numbers, reads_input, stores};
 ghost use Rattle.rls_top.specs.Running.{MakeEnds, WorkEnds};
-ghost use Rattle.rls_top.specs.Stages.{IsDue};
+ghost use Rattle.rls_top.specs.Stages.{IsDue, of_input};
 
 use crate::editing::{edit, leave};
 use crate::made::{Made, saving};
@@ -35,7 +36,8 @@ pub(crate) fn make<K: Keeper, S: Source>(
     keeper: &mut K,
     input: &mut S,
 ) -> Result<Made, MakeError>
-    ensures ends { MakeEnds K.file K.faults K.load_gives S.left S.faults command result keeper.old keeper.new input.old input.new }
+    ensures ends { MakeEnds K.file K.faults (LoadsWith K.load_gives) S.left S.faults command result keeper.old keeper.new input.old input.new }
+    ensures came { HasCome K.load_gives S.read_gives (due_of_command command) result keeper.old keeper.new input.old input.new }
 {
     match command {
         Command::New { group, me, members } => {
@@ -67,7 +69,8 @@ fn make_new<K: Keeper>(
     ensures never_falls { K.faults keeper.old ≤ K.faults keeper.new }
     ensures kept { Keeps (K.file keeper.old) (K.file keeper.new) }
     ensures storing { IfOk result (λ made. IsSome made.stored) }
-    ensures calls { IsTrue (calls_keeper (Some (commands.New group me members))) → HasLoaded K.load_gives result keeper.old keeper.new }
+    ensures calls { IsTrue (calls_keeper (Some (commands.New group me members))) → HasLoaded (LoadsWith K.load_gives) result keeper.old keeper.new }
+    ensures found { IsTrue (calls_keeper (Some (commands.New group me members))) → FindsUnlessFailed K.load_gives (λ kept. IsDue of_open result (due_of_fresh group me members (loaded kept))) result keeper.old keeper.new }
 {
     match Replica::new(alloc, group, me, members) {
         Err(NewError::Members { members }) => Err(OpenError::Command {
@@ -98,7 +101,8 @@ fn make_first<K: Keeper>(
     ensures never_falls { K.faults keeper.old ≤ K.faults keeper.new }
     ensures kept { Keeps (K.file keeper.old) (K.file keeper.new) }
     ensures storing { IfOk result (λ made. IsSome made.stored) }
-    ensures calls { HasLoaded K.load_gives result keeper.old keeper.new }
+    ensures calls { HasLoaded (LoadsWith K.load_gives) result keeper.old keeper.new }
+    ensures found { FindsUnlessFailed K.load_gives (λ kept. IsDue of_open result (due_of_fresh group me members (loaded kept))) result keeper.old keeper.new }
 {
     match load(alloc, keeper) {
         Err(error) => Err(error),
@@ -137,7 +141,8 @@ fn make_on_file<K: Keeper, S: Source>(
     keeper: &mut K,
     input: &mut S,
 ) -> Result<Made, MakeError>
-    ensures ends { MakeEnds K.file K.faults K.load_gives S.left S.faults (commands.OnFile command) result keeper.old keeper.new input.old input.new }
+    ensures ends { MakeEnds K.file K.faults (LoadsWith K.load_gives) S.left S.faults (commands.OnFile command) result keeper.old keeper.new input.old input.new }
+    ensures came { HasCome K.load_gives S.read_gives (due_of_command (commands.OnFile command)) result keeper.old keeper.new input.old input.new }
 {
     match open(alloc, keeper) {
         Err(error) => Err(MakeError::from(error)),
@@ -158,6 +163,7 @@ fn make_of<S: Source>(
     requires sane { IsSane replica.old }
     requires writable { AreWritable replica.old }
     ensures ends { WorkEnds S.left S.faults command replica.old result input.old input.new }
+    ensures came { IsTrue (reads_input (Some (commands.OnFile command))) → ReadsUnlessFailed S.read_gives (λ given. IfSome (due_at command replica.old (Some given)) (IsDue of_input result)) result input.old input.new }
 {
     let made = match command {
         FileCommand::Text => show_text(alloc, replica)?,

@@ -1,4 +1,5 @@
 use Rattle.std.proofs.Common.{◌≡◌, Err, ap, refl, subst, sym, IfSome, List, ℕ}
+use Rattle.rls_io.specs.Device.{LoadsWith}
 use Rattle.rls_report.specs.declared.failures.Failure.{Failure}
 use Rattle.rls_session.specs.Devices.{devices}
 use Rattle.rls_session.specs.Due.{due}
@@ -12,7 +13,7 @@ returns-in-Err-clause-ends g c = λ n s.
     let keeper = c.args.keeper.now in
     let input = c.args.input.now in
     let output = c.args.output.now in
-    unopened_ends g.K.Keeper.load_gives g.K.Keeper.store_gives ((input ≡ input) × (output ≡ output)) n keeper c.«open».new.keeper
+    unopened_ends (LoadsWith g.K.Keeper.load_gives) g.K.Keeper.store_gives ((input ≡ input) × (output ≡ output)) n keeper c.«open».new.keeper
     (devices g.K.Keeper.file g.K.Keeper.faults g.S.Source.left g.S.Source.faults g.W.Sink.told g.W.Sink.faults keeper input output)
     (devices g.K.Keeper.file g.K.Keeper.faults g.S.Source.left g.S.Source.faults g.W.Sink.told g.W.Sink.faults c.«open».new.keeper input output)
     c.in-Err.error c.from.result c.from.ensures s c.in-Err.ensures.opened c.in-Err.ensures.kept c.in-Err.ensures.errors (λ e. c.in-Err.ensures.keeper (ap Err e)) (λ other. c.in-Err.ensures.uncounted (λ e. other cc)) c.in-Err.ensures.calls
@@ -24,7 +25,7 @@ returns-in-Ok-clause-ends g c = λ n s.
     let mid = c.«open».new.keeper in
     let input = c.args.input.now in
     let output = c.args.output.now in
-    opened_ends g.K.Keeper.load_gives g.K.Keeper.store_gives ((c.answer_on.new.input ≡ input) × (c.answer_on.new.output ≡ output)) n keeper c.answer_on.new.keeper
+    opened_ends (LoadsWith g.K.Keeper.load_gives) g.K.Keeper.store_gives ((c.answer_on.new.input ≡ input) × (c.answer_on.new.output ≡ output)) n keeper c.answer_on.new.keeper
     (devices g.K.Keeper.file g.K.Keeper.faults g.S.Source.left g.S.Source.faults g.W.Sink.told g.W.Sink.faults keeper input output)
     (devices g.K.Keeper.file g.K.Keeper.faults g.S.Source.left g.S.Source.faults g.W.Sink.told g.W.Sink.faults c.answer_on.new.keeper c.answer_on.new.input c.answer_on.new.output)
     c.answer_on.result c.in-Ok.replica mid (devices g.K.Keeper.file g.K.Keeper.faults g.S.Source.left g.S.Source.faults g.W.Sink.told g.W.Sink.faults mid input output)

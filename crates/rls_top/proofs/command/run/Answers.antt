@@ -17,3 +17,6 @@ returns-clause-line g c =
 
 pub returns-clause-means : goal.returns-clause-means
 returns-clause-means g c = means_so (map string_bytes c.args.words.now) c.tell.result c.args.keeper.now c.perform-ending.new.keeper c.args.input.now c.perform-ending.new.input c.args.output.now c.perform-ending.new.output (returns-clause-ends g c) (returns-clause-line g c)
+
+pub returns-clause-performs : goal.returns-clause-performs
+returns-clause-performs g c = c.perform-ending.ensures.performs c.tell.result c.tell.ensures.status

@@ -25,6 +25,12 @@ returns-in-Err-Members-clause-calls g c = λ h. let e = c.in-Err-Members in unco
 pub returns-in-Err-Me-clause-calls : goal.returns-in-Err-Me-clause-calls
 returns-in-Err-Me-clause-calls g c = λ h. let e = c.in-Err-Me in no_member c.args.group c.args.me c.args.members ((c.new.ensures.me e.me).0 (e.is ∙ ap Err e.field-0-is)).1 h
 
+pub returns-in-Err-Members-clause-found : goal.returns-in-Err-Members-clause-found
+returns-in-Err-Members-clause-found g c = λ h. let e = c.in-Err-Members in uncounted c.args.group c.args.me c.args.members ((c.new.ensures.members e.members).0 (e.is ∙ ap Err e.field-0-is)).1 h
+
+pub returns-in-Err-Me-clause-found : goal.returns-in-Err-Me-clause-found
+returns-in-Err-Me-clause-found g c = λ h. let e = c.in-Err-Me in no_member c.args.group c.args.me c.args.members ((c.new.ensures.me e.me).0 (e.is ∙ ap Err e.field-0-is)).1 h
+
 pub make_first-requires : goal.make_first-requires
 make_first-requires g c = record { fresh = c.in-Ok.ensures.ok; writable = subst AreWritable (sym c.in-Ok.ensures.ok) (fresh_writable c.args.group c.args.me c.args.members) }
 
