@@ -211,14 +211,34 @@ function align(old, olds, new, news, by_anchors,  numbers, is_old, k, i, m, j, n
   }
 }
 
-# What goes and what comes, less what is equal at the front and at the end.
-function put(p, s, q, t,  a0, s0, goes, come) {
+function has_word(s) { return s ~ /[^\t-\r ]/ }
+function loses_line(gone, come) { return gone ~ /\n/ && come !~ /\n/ }
+
+# What goes and what comes. White space that is left between two words keeps its last character, or gets a new one behind all of it.
+function put(p, s, q, t,  gone, come, is_blank) {
+  come = substr(NEW, q + 1, t - q)
+  if (p == 0 || p == s || s == length(OLD) || come == "" || has_word(come)) { replace(p, s, q, t); return }
+  gone = substr(OLD, p + 1, s - p)
+  is_blank = !has_word(gone)
+  if (loses_line(gone, come) || (is_blank && substr(OLD, s, 1) != substr(NEW, t, 1))) {
+    while (is_blank && p < s && q < t - 1 && substr(OLD, p + 1, 1) == substr(NEW, q + 1, 1)) { p++; q++ }
+    hand_on(p, s, q, t)
+  }
+  else if (is_blank) replace(p, s - 1, q, t - 1)
+  else replace(p, s, q, t)
+}
+
+# The same, less what is equal at the front and at the end.
+function replace(p, s, q, t,  a0, s0) {
   a0 = p; s0 = s
   while (p < s && q < t && substr(OLD, p + 1, 1) == substr(NEW, q + 1, 1)) { p++; q++ }
   if (p < s || q < t) while (p > a0 && (is_joined(OLD, p) || is_joined(NEW, q))) { p--; q-- }
   while (s > p && t > q && substr(OLD, s, 1) == substr(NEW, t, 1)) { s--; t-- }
   while (s < s0 && (is_joined(OLD, s) || is_joined(NEW, t))) { s++; t++ }
-  if (s == p && t == q) return
+  if (s > p || t > q) hand_on(p, s, q, t)
+}
+
+function hand_on(p, s, q, t,  goes, come) {
   place += characters(substr(OLD, told + 1, p - told))
   told = s
   goes = characters(substr(OLD, p + 1, s - p))
@@ -242,7 +262,7 @@ function ends_of(s, at, end, by_lines, ends,  count, is_in) {
 
 # What has nothing in common: line with line, and word with word where there are as many; otherwise in proportion.
 function pair(p, m, q, n, by_lines,  olds, news, x, y, parts, k, s, t) {
-  if (by_lines && is_one_piece(substr(OLD, p + 1, m - p), substr(NEW, q + 1, n - q))) { put(p, m, q, n); return }
+  if (by_lines && is_one_piece(substr(OLD, p + 1, m - p), substr(NEW, q + 1, n - q))) { with_spaces_beside(p, m, q, n); return }
   olds = ends_of(OLD, p, m, by_lines, x)
   news = ends_of(NEW, q, n, by_lines, y)
   parts = least(olds, news)
@@ -257,9 +277,27 @@ function pair(p, m, q, n, by_lines,  olds, news, x, y, parts, k, s, t) {
 # Whether there is nothing to pair: one side has nothing but spaces, or both have none.
 function is_one_piece(gone, come) { return gone !~ /[^\t-\r ]/ || come !~ /[^\t-\r ]/ || (gone !~ /[\t-\r ]/ && come !~ /[\t-\r ]/) }
 
-# So many bytes stay; what is before them is done now.
-function stays(p, q, count) {
-  if (substr(OLD, done_old + 1, p - done_old) != substr(NEW, done_new + 1, q - done_new)) pair(done_old, p, done_new, q, 1)
+# If only white space goes, or a line feed, and no word comes: the white space beside it that stays belongs to it.
+function with_spaces_beside(p, m, q, n,  gone, is_blank, a, s) {
+  gone = substr(OLD, p + 1, m - p)
+  is_blank = !has_word(gone)
+  if (p == m || has_word(substr(NEW, q + 1, n - q)) || !(is_blank || gone ~ /\n/)) { put(p, m, q, n); return }
+  for (a = p; a > low_old && space[substr(OLD, a, 1)]; a--);
+  for (s = m; s < high_old && space[substr(OLD, s + 1, 1)]; s++);
+  if (is_blank || loses_line(substr(OLD, a + 1, s - a), substr(NEW, q - p + a + 1, n - m + s - q + p - a))) put(a, s, q - p + a, n - m + s)
+  else put(p, m, q, n)
+}
+
+# So many bytes stay; what is before them is done now. White space between white space that differs is a part of that.
+function stays(p, q, count,  gone, come) {
+  gone = substr(OLD, done_old + 1, p - done_old)
+  come = substr(NEW, done_new + 1, q - done_new)
+  if (gone != come) {
+    if (count && !has_word(gone) && !has_word(come) && !has_word(substr(OLD, p + 1, count))) return
+    high_old = p + count
+    pair(done_old, p, done_new, q, 1)
+    low_old = p
+  }
   done_old = p + count
   done_new = q + count
 }
@@ -343,7 +381,8 @@ function is_line_by_line(i, j, count,  looks, k, at, x, y, front, alike, most) {
 }
 
 function changed_lines(p, i, x, q, j, y,  k) {
-  if (x - i == y - j && is_line_by_line(i, j, x - i))
+  if (joined(old_key, i, x - 1) == joined(new_key, j, y - 1)) same_but_spaces(p, joined(old, i, x - 1), q, joined(new, j, y - 1))
+  else if (x - i == y - j && is_line_by_line(i, j, x - i))
     for (k = 0; k < x - i; k++) { words(p, old[i + k], q, new[j + k]); p += length(old[i + k]); q += length(new[j + k]) }
   else words(p, joined(old, i, x - 1), q, joined(new, j, y - 1))
 }

@@ -24,6 +24,8 @@ After that it goes on line by line."
 (defvar rls-compare--old)
 (defvar rls-compare--new)
 (defvar rls-compare--at)
+(defvar rls-compare--low)
+(defvar rls-compare--high)
 (defvar rls-compare--to)
 (defvar rls-compare--found)
 
@@ -145,7 +147,25 @@ What the other one doesn't have is left out first."
       (dotimes (k (nth 2 run)) (push (cons (aref from (+ k (nth 0 run))) (aref to (+ k (nth 1 run)))) pairs)))
     (nreverse pairs)))
 
+(defun rls-compare--word-p (text from end)
+  (let ((at (string-match "[^\t-\r ]" text from))) (and at (< at end))))
+
+(defun rls-compare--loses-line-p (gone come)
+  (and (string-search "\n" gone) (not (string-search "\n" come))))
+
 (defun rls-compare--put (a m b n)
+  "What goes and what comes from A to M and from B to N.
+White space that is left between two words keeps its last character, or gets a
+new one behind all of it."
+  (let* ((old rls-compare--old) (new rls-compare--new) (blank (not (rls-compare--word-p old a m))))
+    (cond ((or (= a 0) (= a m) (= m (length old)) (= b n) (rls-compare--word-p new b n)) (rls-compare--replace a m b n))
+          ((or (rls-compare--loses-line-p (substring old a m) (substring new b n)) (and blank (/= (aref old (1- m)) (aref new (1- n)))))
+           (while (and blank (< a m) (< b (1- n)) (eq (aref old a) (aref new b))) (setq a (1+ a) b (1+ b)))
+           (push (list a (- m a) (substring new b n)) rls-compare--found))
+          (blank (rls-compare--replace a (1- m) b (1- n)))
+          (t (rls-compare--replace a m b n)))))
+
+(defun rls-compare--replace (a m b n)
   "What goes and what comes, less what is equal at the front and at the end."
   (let ((old rls-compare--old) (new rls-compare--new) (p a) (q b) (s m))
     (while (and (< p m) (< q n) (eq (aref old p) (aref new q))) (setq p (1+ p) q (1+ q)))
@@ -185,14 +205,32 @@ They begin at A and B."
 Line goes with line, and word with word where there are as many; otherwise in
 proportion."
   (let ((gone (substring rls-compare--old a m)) (come (substring rls-compare--new b n)))
-    (if (not (and (string-match-p "[^\t-\r ]" gone) (string-match-p "[^\t-\r ]" come))) (rls-compare--put a m b n)
+    (if (not (and (string-match-p "[^\t-\r ]" gone) (string-match-p "[^\t-\r ]" come)))
+        (apply #'rls-compare--put (rls-compare--with-spaces-beside a m b n))
       (let ((old (rls-compare--lines gone)) (new (rls-compare--lines come)))
         (rls-compare--in-proportion a old b new (min (length old) (length new)) #'rls-compare--pair-words)))))
 
+(defun rls-compare--with-spaces-beside (a m b n)
+  "The piece from A to M and from B to N, with white space beside it that stays.
+That is so if only white space goes, or a line feed, and no word comes."
+  (let* ((old rls-compare--old) (new rls-compare--new) (blank (not (rls-compare--word-p old a m))) (p a) (s m))
+    (if (or (= a m) (rls-compare--word-p new b n) (not (or blank (string-search "\n" (substring old a m))))) (list a m b n)
+      (while (and (> p rls-compare--low) (rls-compare--space-p (aref old (1- p)))) (setq p (1- p)))
+      (while (and (< s rls-compare--high) (rls-compare--space-p (aref old s))) (setq s (1+ s)))
+      (let ((q (+ (- b a) p)) (e (+ (- n m) s)))
+        (if (or blank (rls-compare--loses-line-p (substring old p s) (substring new q e))) (list p s q e) (list a m b n))))))
+
 (defun rls-compare--stays (a b count)
-  "COUNT characters stay; what is before them is done now."
-  (when (or (> a rls-compare--at) (> b rls-compare--to)) (rls-compare--pair rls-compare--at a rls-compare--to b))
-  (setq rls-compare--at (+ a count) rls-compare--to (+ b count)))
+  "COUNT characters stay from A and B; what is before them is done now.
+White space between white space that differs is a part of that."
+  (let ((at rls-compare--at) (to rls-compare--to))
+    (unless (and (= (- a at) (- b to)) (eq t (compare-strings rls-compare--old at a rls-compare--new to b)))
+      (if (and (> count 0) (not (rls-compare--word-p rls-compare--old at (+ a count))) (not (rls-compare--word-p rls-compare--new to b)))
+          (setq count nil)
+        (setq rls-compare--high (+ a count))
+        (rls-compare--pair at a to b)
+        (setq rls-compare--low a)))
+    (when count (setq rls-compare--at (+ a count) rls-compare--to (+ b count)))))
 
 (defun rls-compare--same-but-spaces (a old b new)
   (if (equal old new) (rls-compare--stays a b (length old))
@@ -244,6 +282,13 @@ They do so for half of the shorter."
     (>= (* 4 alike) (* 3 looks))))
 
 (defun rls-compare--changed-lines (a old b new)
+  (let ((gone (apply #'concat old)) (come (apply #'concat new)))
+    (if (equal (rls-compare--without-spaces gone) (rls-compare--without-spaces come)) (rls-compare--same-but-spaces a gone b come)
+      (rls-compare--other-lines a old b new))))
+
+(defun rls-compare--without-spaces (text) (replace-regexp-in-string "[\t-\r ]+" "" text t t))
+
+(defun rls-compare--other-lines (a old b new)
   (unless (and (= (length old) (length new)) (rls-compare--line-by-line-p old new))
     (setq old (list (apply #'concat old)) new (list (apply #'concat new))))
   (while old
@@ -254,10 +299,10 @@ They do so for half of the shorter."
 (defun rls-compare (old new)
   "The replacements that make NEW of OLD, as lists (AT COUNT TEXT), the last first.
 Their places are those of OLD."
-  (let* ((rls-compare--old old) (rls-compare--new new) (rls-compare--at 0) (rls-compare--to 0) (rls-compare--found nil)
+  (let* ((rls-compare--old old) (rls-compare--new new) (rls-compare--at 0) (rls-compare--to 0) (rls-compare--low 0) (rls-compare--high 0) (rls-compare--found nil)
          (rls-compare--spent 0) (rls-compare--cut nil) (rls-compare--late (+ (float-time) rls-compare-seconds)) (case-fold-search nil)
          (olds (rls-compare--lines old)) (news (rls-compare--lines new))
-         (key (lambda (line) (replace-regexp-in-string "[\t-\r ]+" "" line t t)))
+         (key #'rls-compare--without-spaces)
          (a 0) (b 0) (i 0) (j 0) (last (length olds)))
     (save-match-data
       ;; Where one of them has nothing but spaces, as in a place of many that a command replaces, there is nothing to look for.

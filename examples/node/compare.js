@@ -245,9 +245,21 @@ const isJoined = (text, at) => {
   return JOINED.test(text);
 };
 
+const hasWord = (text, from, to) => {
+  let at = from;
+  while (at < to && isSpace(text.charCodeAt(at))) at += 1;
+  return at < to;
+};
+
+const losesLine = (old, a, m, now, b, n) => old.slice(a, m).includes('\n') && !now.slice(b, n).includes('\n');
+
+const withoutSpaces = (text) => text.replace(/[\t-\r ]+/g, '');
+
 class Comparison {
   #at = 0; // what is before is done, in the old and in the new text
   #to = 0;
+  #low = 0; // the old text stays from here to #at, and after a piece to #high
+  #high = 0;
   found = [];
   work = { spent: 0, isCut: false };
 
@@ -256,8 +268,21 @@ class Comparison {
     this.now = now;
   }
 
-  /** What goes and what comes, less what is equal at the front and at the end. */
+  /** What goes and what comes. White space that is left between two words keeps its last character, or gets a new one behind all of it. */
   #put(a, m, b, n) {
+    const { old, now } = this;
+    const isBlank = !hasWord(old, a, m);
+    if (a === 0 || a === m || m === old.length || b === n || hasWord(now, b, n)) this.#replace(a, m, b, n);
+    else if (losesLine(old, a, m, now, b, n) || (isBlank && old[m - 1] !== now[n - 1])) {
+      let front = 0;
+      if (isBlank) while (a + front < m && b + front < n - 1 && old[a + front] === now[b + front]) front += 1;
+      this.found.push({ at: a + front, count: m - a - front, text: now.slice(b + front, n) });
+    } else if (isBlank) this.#replace(a, m - 1, b, n - 1);
+    else this.#replace(a, m, b, n);
+  }
+
+  /** What goes and what comes, less what is equal at the front and at the end. */
+  #replace(a, m, b, n) {
     const { old, now } = this;
     let [p, q, s, t] = [a, b, m, n];
     while (p < m && q < n && old.charCodeAt(p) === now.charCodeAt(q)) [p, q] = [p + 1, q + 1];
@@ -286,7 +311,7 @@ class Comparison {
     }
     const [gone, come] = [this.old.slice(a, m), this.now.slice(b, n)];
     if (!stripped(gone).text || !stripped(come).text) {
-      this.#put(a, m, b, n);
+      this.#put(...this.#withSpacesBeside(a, m, b, n));
       return;
     }
     const [old, now] = [linesOf(gone), linesOf(come)];
@@ -300,10 +325,27 @@ class Comparison {
     this.#inProportion(a, old, b, now, parts, (...ends) => this.#put(...ends));
   }
 
-  /** So many units stay; what is before them is done now. */
+  /** If only white space goes, or a line feed, and no word comes: the white space beside it that stays belongs to it. */
+  #withSpacesBeside(a, m, b, n) {
+    const { old, now } = this;
+    const isBlank = !hasWord(old, a, m);
+    if (a === m || hasWord(now, b, n) || !(isBlank || old.slice(a, m).includes('\n'))) return [a, m, b, n];
+    let [p, s] = [a, m];
+    while (p > this.#low && isSpace(old.charCodeAt(p - 1))) p -= 1;
+    while (s < this.#high && isSpace(old.charCodeAt(s))) s += 1;
+    const [q, t] = [b - a + p, n - m + s];
+    return isBlank || losesLine(old, p, s, now, q, t) ? [p, s, q, t] : [a, m, b, n];
+  }
+
+  /** So many units stay; what is before them is done now. White space between white space that differs is a part of that. */
   #stays(a, b, count) {
     const isSame = a - this.#at === b - this.#to && this.old.slice(this.#at, a) === this.now.slice(this.#to, b);
-    if (!isSame) this.#pair(this.#at, a, this.#to, b);
+    if (!isSame) {
+      if (count > 0 && !hasWord(this.old, this.#at, a + count) && !hasWord(this.now, this.#to, b)) return;
+      this.#high = a + count;
+      this.#pair(this.#at, a, this.#to, b);
+      this.#low = a;
+    }
     [this.#at, this.#to] = [a + count, b + count];
   }
 
@@ -351,7 +393,12 @@ class Comparison {
   }
 
   #changedLines(a, old, b, now) {
-    const [olds, nows] = old.length === now.length && isLineByLine(old, now) ? [old, now] : [[old.join('')], [now.join('')]];
+    const [gone, come] = [old.join(''), now.join('')];
+    if (withoutSpaces(gone) === withoutSpaces(come)) {
+      this.#sameButSpaces(a, gone, b, come);
+      return;
+    }
+    const [olds, nows] = old.length === now.length && isLineByLine(old, now) ? [old, now] : [[gone], [come]];
     olds.forEach((line, k) => {
       this.#words(a, line, b, nows[k]);
       a += line.length;

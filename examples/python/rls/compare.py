@@ -240,12 +240,28 @@ class _Comparison:
         self.old, self.new, self.work = old, new, _Work()
         self.has_marks = not (old.isascii() and new.isascii())
         self.at = self.to = 0                           # what is before is done, in the old and in the new text
+        self.low = self.high = 0                        # the old text stays from here to `at`, and after a piece to there
         self.found: List[Replacement] = []
 
     def is_joined(self, text: str, at: int) -> bool:
         return 0 < at < len(text) and (bool(JOINED.match(text, at)) or text[at - 1] == "\u200d")
 
     def put(self, a: int, m: int, b: int, n: int) -> None:
+        """What goes and what comes. White space that is left between two words keeps its last character, or gets a new one behind all of it."""
+        old, new = self.old, self.new
+        if 0 < a < m < len(old) and b < n and not WORD.search(new, b, n):
+            is_lost = "\n" in old[a:m] and "\n" not in new[b:n]
+            is_blank = not WORD.search(old, a, m)
+            if is_lost or (is_blank and old[m - 1] != new[n - 1]):
+                while is_blank and a < m and b < n - 1 and old[a] == new[b]:
+                    a, b = a + 1, b + 1
+                self.found.append(Replacement(a, m - a, new[b:n]))
+                return
+            if is_blank:
+                m, n = m - 1, n - 1
+        self.replace(a, m, b, n)
+
+    def replace(self, a: int, m: int, b: int, n: int) -> None:
         """What goes and what comes, less what is equal at the front and at the end."""
         if a == m or b == n:
             if a < m or b < n:
@@ -293,15 +309,33 @@ class _Comparison:
         """What has nothing in common: line with line, and word with word where there are as many; otherwise in proportion."""
         is_one = not SPACE.search(self.old, a, m) and not SPACE.search(self.new, b, n)
         if is_one or not WORD.search(self.old, a, m) or not WORD.search(self.new, b, n):
-            self.put(a, m, b, n)
+            self.put(*self.with_spaces_beside(a, m, b, n))
             return
         old, new = LINE.findall(self.old, a, m), LINE.findall(self.new, b, n)
         self.in_proportion(a, old, b, new, min(len(old), len(new)), self.pair_words)
 
+    def with_spaces_beside(self, a: int, m: int, b: int, n: int) -> Tuple[int, int, int, int]:
+        """If only white space goes, or a line feed, and no word comes: the white space beside it that stays belongs to it."""
+        old, new = self.old, self.new
+        is_blank = not WORD.search(old, a, m)
+        if a == m or WORD.search(new, b, n) or not (is_blank or "\n" in old[a:m]):
+            return a, m, b, n
+        p, s = a, m
+        while p > self.low and old[p - 1] in SPACES:
+            p -= 1
+        while s < self.high and old[s] in SPACES:
+            s += 1
+        q, t = b - a + p, n - m + s
+        return (p, s, q, t) if is_blank or "\n" not in new[q:t] else (a, m, b, n)
+
     def stays(self, a: int, b: int, count: int) -> None:
-        """So many characters stay; what is before them is done now."""
+        """So many characters stay; what is before them is done now. White space between white space that differs is a part of that."""
         if self.old[self.at:a] != self.new[self.to:b]:
+            if count and not (WORD.search(self.old, self.at, a + count) or WORD.search(self.new, self.to, b)):
+                return
+            self.high = a + count
             self.pair(self.at, a, self.to, b)
+            self.low = a
         self.at, self.to = a + count, b + count
 
     def same_but_spaces(self, a: int, old: str, b: int, new: str) -> None:
@@ -350,6 +384,9 @@ class _Comparison:
             self.stays(starts[0][i], starts[1][j], len(old[i]))
 
     def changed_lines(self, a: int, old: List[str], b: int, new: List[str]) -> None:
+        if SPACE.sub("", "".join(old)) == SPACE.sub("", "".join(new)):
+            self.same_but_spaces(a, "".join(old), b, "".join(new))
+            return
         if len(old) != len(new) or not is_line_by_line(old, new):
             old, new = ["".join(old)], ["".join(new)]
         for x, y in zip(old, new):

@@ -274,8 +274,30 @@ end
 local Comparison = {}
 Comparison.__index = Comparison
 
--- What goes and what comes, less what is equal at the front and at the end.
+local function has_word(text, from, to)
+  local at = text:find('[^\t-\r ]', from + 1)
+  return at ~= nil and at <= to
+end
+
+local function loses_line(gone, come) return gone:find('\n', 1, true) and not come:find('\n', 1, true) end
+
+-- What goes and what comes. White space that is left between two words keeps its last character, or gets a new one behind all of it.
 function Comparison:put(a, m, b, n)
+  local old, new = self.old, self.new
+  if a == 0 or a == m or m == #old or b == n or has_word(new, b, n) then return self:replace(a, m, b, n) end
+  local is_blank = not has_word(old, a, m)
+  if loses_line(old:sub(a + 1, m), new:sub(b + 1, n)) or (is_blank and old:byte(m) ~= new:byte(n)) then
+    while is_blank and a < m and b < n - 1 and old:byte(a + 1) == new:byte(b + 1) do a, b = a + 1, b + 1 end
+    self.found[#self.found + 1] = { at = a, gone = old:sub(a + 1, m), come = new:sub(b + 1, n) }
+  elseif is_blank then
+    self:replace(a, m - 1, b, n - 1)
+  else
+    self:replace(a, m, b, n)
+  end
+end
+
+-- What goes and what comes, less what is equal at the front and at the end.
+function Comparison:replace(a, m, b, n)
   local old, new, p, q, s, t = self.old, self.new, a, b, m, n
   while p < m and q < n and old:byte(p + 1) == new:byte(q + 1) do p, q = p + 1, q + 1 end
   if p < m or q < n then
@@ -305,14 +327,32 @@ end
 -- What has nothing in common: line with line, and word with word where there are as many; otherwise in proportion.
 function Comparison:pair(a, m, b, n)
   local gone, come = self.old:sub(a + 1, m), self.new:sub(b + 1, n)
-  if not gone:find('[^\t-\r ]') or not come:find('[^\t-\r ]') then return self:put(a, m, b, n) end
+  if not gone:find('[^\t-\r ]') or not come:find('[^\t-\r ]') then return self:put(self:with_spaces_beside(a, m, b, n)) end
   local old, new = lines_of(gone), lines_of(come)
   self:in_proportion(a, old, b, new, min(#old, #new), self.pair_words)
 end
 
--- So many bytes stay; what is before them is done now.
+-- If only white space goes, or a line feed, and no word comes: the white space beside it that stays belongs to it.
+function Comparison:with_spaces_beside(a, m, b, n)
+  local old, new = self.old, self.new
+  local is_blank = not has_word(old, a, m)
+  if a == m or has_word(new, b, n) or not (is_blank or old:sub(a + 1, m):find('\n', 1, true)) then return a, m, b, n end
+  local p, s = a, m
+  while p > self.low and is_space(old:byte(p)) do p = p - 1 end
+  while s < self.high and is_space(old:byte(s + 1)) do s = s + 1 end
+  local q, t = b - a + p, n - m + s
+  if is_blank or loses_line(old:sub(p + 1, s), new:sub(q + 1, t)) then return p, s, q, t end
+  return a, m, b, n
+end
+
+-- So many bytes stay; what is before them is done now. White space between white space that differs is a part of that.
 function Comparison:stays(a, b, count)
-  if a > self.at or b > self.to then self:pair(self.at, a, self.to, b) end
+  if a - self.at ~= b - self.to or self.old:sub(self.at + 1, a) ~= self.new:sub(self.to + 1, b) then
+    if count > 0 and not has_word(self.old, self.at, a + count) and not has_word(self.new, self.to, b) then return end
+    self.high = a + count
+    self:pair(self.at, a, self.to, b)
+    self.low = a
+  end
   self.at, self.to = a + count, b + count
 end
 
@@ -348,7 +388,9 @@ function Comparison:words(a, gone, b, come)
 end
 
 function Comparison:changed_lines(a, old, b, new)
-  if #old ~= #new or not is_line_by_line(old, new) then old, new = { table.concat(old) }, { table.concat(new) } end
+  local gone, come = table.concat(old), table.concat(new)
+  if gone:gsub('[\t-\r ]+', '') == come:gsub('[\t-\r ]+', '') then return self:same_but_spaces(a, gone, b, come) end
+  if #old ~= #new or not is_line_by_line(old, new) then old, new = { gone }, { come } end
   for k, line in ipairs(old) do
     if vim.loop.hrtime() > self.late then self.work.is_cut = true else self:words(a, line, b, new[k]) end
     a, b = a + #line, b + #new[k]
@@ -385,7 +427,7 @@ end
 -- The replacements { at, gone, come } that make one text of another, from the first to the last, whose places are those of the old one; and
 -- whether some parts were compared by cheaper means. After so many seconds (15, if not said otherwise) it goes on line by line.
 return function(old, new, seconds)
-  local comparison = setmetatable({ old = old, new = new, at = 0, to = 0, found = {}, work = { spent = 0, is_cut = false },
+  local comparison = setmetatable({ old = old, new = new, at = 0, to = 0, low = 0, high = 0, found = {}, work = { spent = 0, is_cut = false },
     late = vim.loop.hrtime() + (seconds or 15) * 1e9 }, Comparison)
   comparison:compare()
   return comparison.found, comparison.work.is_cut

@@ -7,6 +7,8 @@ var old: list<number>
 var new: list<number>
 var at: number                          # what is before is done, in the old and in the new text
 var to: number
+var low: number                         # the old text stays from here to `at`, and after a piece to `high`
+var high: number
 var found: list<list<number>>           # where each replacement begins and ends in the old and in the new text
 
 def IsSpace(c: number): bool
@@ -54,8 +56,41 @@ def Tokens(text: list<number>, first: number, last: number): list<list<number>>
   return tokens
 enddef
 
-# What goes and what comes, less what is equal at the front and at the end.
+def HasWord(text: list<number>, from: number, last: number): bool
+  for k in range(from, last - 1)
+    if !IsSpace(text[k])
+      return true
+    endif
+  endfor
+  return false
+enddef
+
+def HasLine(text: list<number>, from: number, last: number): bool
+  return from < last && index(text[from : last - 1], 10) >= 0
+enddef
+
+# What goes and what comes. White space that is left between two words keeps its last character, or gets a new one behind all of it.
 def Put(a: number, m: number, b: number, n: number)
+  if a == 0 || a == m || m == len(old) || b == n || HasWord(new, b, n)
+    Replace(a, m, b, n)
+    return
+  endif
+  const is_blank = !HasWord(old, a, m)
+  if (HasLine(old, a, m) && !HasLine(new, b, n)) || (is_blank && old[m - 1] != new[n - 1])
+    var front = 0
+    while is_blank && a + front < m && b + front < n - 1 && old[a + front] == new[b + front]
+      front += 1
+    endwhile
+    add(found, [a + front, m, b + front, n])
+  elseif is_blank
+    Replace(a, m - 1, b, n - 1)
+  else
+    Replace(a, m, b, n)
+  endif
+enddef
+
+# What goes and what comes, less what is equal at the front and at the end.
+def Replace(a: number, m: number, b: number, n: number)
   var p = a
   var q = b
   var s = m
@@ -101,8 +136,9 @@ enddef
 def Pair(a: number, m: number, b: number, n: number, by_lines: bool)
   var p = a
   var q = b
-  if by_lines && (empty(Tokens(old, a, m)) || empty(Tokens(new, b, n)))
-    Put(a, m, b, n)
+  if by_lines && !(HasWord(old, a, m) && HasWord(new, b, n))
+    const [p0, s0, q0, t0] = WithSpacesBeside(a, m, b, n)
+    Put(p0, s0, q0, t0)
     return
   endif
   const olds = Ends(old, a, m, by_lines)
@@ -124,14 +160,39 @@ def Pair(a: number, m: number, b: number, n: number, by_lines: bool)
   endfor
 enddef
 
-# So many characters stay; what is before them is done now.
+# If only white space goes, or a line feed, and no word comes: the white space beside it that stays belongs to it.
+def WithSpacesBeside(a: number, m: number, b: number, n: number): list<number>
+  const is_blank = !HasWord(old, a, m)
+  if a == m || HasWord(new, b, n) || !(is_blank || HasLine(old, a, m))
+    return [a, m, b, n]
+  endif
+  var p = a
+  var s = m
+  while p > low && IsSpace(old[p - 1])
+    p -= 1
+  endwhile
+  while s < high && IsSpace(old[s])
+    s += 1
+  endwhile
+  const q = b - a + p
+  const t = n - m + s
+  return is_blank || !HasLine(new, q, t) ? [p, s, q, t] : [a, m, b, n]
+enddef
+
+# Whether two parts are the same characters.
+def IsSame(a: number, m: number, b: number, n: number): bool
+  return m - a == n - b && (m == a || old[a : m - 1] == new[b : n - 1])
+enddef
+
+# So many characters stay; what is before them is done now. White space between white space that differs is a part of that.
 def Stays(a: number, b: number, count: number)
-  if a > at || b > to
-    if a == at || b == to
-      add(found, [at, a, to, b])
-    else
-      Pair(at, a, to, b, true)
+  if !IsSame(at, a, to, b)
+    if count > 0 && !HasWord(old, at, a + count) && !HasWord(new, to, b)
+      return
     endif
+    high = a + count
+    Pair(at, a, to, b, true)
+    low = a
   endif
   at = a + count
   to = b + count
@@ -239,6 +300,8 @@ export def Compared(gone: list<number>, come: list<number>): list<list<number>>
   new = index(come, 0) < 0 ? come : mapnew(come, (_, c) => c == 0 ? 0x110000 : c)
   at = 0
   to = 0
+  low = 0
+  high = 0
   align.Begin()
   found = []
   const olds = Ends(old, 0, len(old), true)
@@ -250,7 +313,9 @@ export def Compared(gone: list<number>, come: list<number>): list<list<number>>
     const p = x > 0 ? olds[x - 1] : 0
     const q = y > 0 ? news[y - 1] : 0
     if x > i && y > j
-      if x - i == y - j && IsLineByLine(lines[0][i : x - 1], lines[1][j : y - 1])
+      if join(keys[0][i : x - 1], '') ==# join(keys[1][j : y - 1], '')
+        SameButSpaces(a, p, b, q)
+      elseif x - i == y - j && IsLineByLine(lines[0][i : x - 1], lines[1][j : y - 1])
         for k in range(x - i)
           ByWords(k > 0 ? olds[i + k - 1] : a, olds[i + k], k > 0 ? news[j + k - 1] : b, news[j + k])
         endfor
