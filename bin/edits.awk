@@ -400,8 +400,11 @@ END {
   for (k = 1; k <= olds; k++) old_key[k] = squeezed(old[k])
   for (k = 1; k <= news; k++) new_key[k] = squeezed(new[k])
   align(old_key, olds + 0, new_key, news + 0, 1)
-  lines = pairs
-  for (k = 1; k <= lines; k++) { lx[k] = px[k]; ly[k] = py[k] }
+  # If white space alone differs, lines stay only where as much is before them.
+  is_same = joined(old_key, 1, olds + 0) == joined(new_key, 1, news + 0)
+  for (k = 1; k <= olds; k++) { x_before[k] = x + 0; x += length(old_key[k]) }
+  for (k = 1; k <= news; k++) { y_before[k] = y + 0; y += length(new_key[k]) }
+  for (k = 1; k <= pairs; k++) if (!is_same || x_before[px[k]] == y_before[py[k]]) { lx[++lines] = px[k]; ly[lines] = py[k] }
   lx[lines + 1] = olds + 1; ly[lines + 1] = news + 1
   i = j = 1
   for (k = 1; k <= lines + 1; k++) {

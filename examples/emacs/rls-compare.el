@@ -296,6 +296,17 @@ They do so for half of the shorter."
       (if (> (float-time) rls-compare--late) (setq rls-compare--cut t) (rls-compare--words a x b y))
       (setq a (+ a (length x)) b (+ b (length y))))))
 
+(defun rls-compare--sizes-before (parts)
+  (let ((size 0)) (vconcat (mapcar (lambda (part) (prog1 size (setq size (+ size (length part))))) parts))))
+
+(defun rls-compare--line-pairs (olds news)
+  "Which lines stay, whose keys are OLDS and NEWS.
+If white space alone differs, they do so only where as much is before them."
+  (let ((pairs (rls-compare--align olds news t)))
+    (if (not (equal (apply #'concat (append olds nil)) (apply #'concat (append news nil)))) pairs
+      (let ((x (rls-compare--sizes-before olds)) (y (rls-compare--sizes-before news)))
+        (cl-remove-if-not (lambda (pair) (= (aref x (car pair)) (aref y (cdr pair)))) pairs)))))
+
 (defun rls-compare (old new)
   "The replacements that make NEW of OLD, as lists (AT COUNT TEXT), the last first.
 Their places are those of OLD."
@@ -307,7 +318,7 @@ Their places are those of OLD."
     (save-match-data
       ;; Where one of them has nothing but spaces, as in a place of many that a command replaces, there is nothing to look for.
       (dolist (pair (when (and (string-match-p "[^\t-\r ]" old) (string-match-p "[^\t-\r ]" new))
-                      (append (rls-compare--align (vconcat (mapcar key olds)) (vconcat (mapcar key news)) t) (list (cons last (length news))))))
+                      (append (rls-compare--line-pairs (vconcat (mapcar key olds)) (vconcat (mapcar key news))) (list (cons last (length news))))))
         (let ((p a) (q b) gone come)
           (while (< i (car pair)) (setq p (+ p (length (car olds))) i (1+ i)) (push (pop olds) gone))
           (while (< j (cdr pair)) (setq q (+ q (length (car news))) j (1+ j)) (push (pop news) come))

@@ -255,6 +255,14 @@ const losesLine = (old, a, m, now, b, n) => old.slice(a, m).includes('\n') && !n
 
 const withoutSpaces = (text) => text.replace(/[\t-\r ]+/g, '');
 
+const sizesBefore = (parts) => {
+  let size = 0;
+  return parts.map((part) => {
+    size += part.length;
+    return size - part.length;
+  });
+};
+
 class Comparison {
   #at = 0; // what is before is done, in the old and in the new text
   #to = 0;
@@ -410,8 +418,14 @@ class Comparison {
     const [old, now] = [linesOf(this.old), linesOf(this.now)];
     const keysOf = (text, count) => text.replace(/[\t\v\f\r ]+/g, '').split('\n').slice(0, count);
     const [olds, nows] = [keysOf(this.old, old.length), keysOf(this.now, now.length)];
+    let pairs = align(olds, nows, true, this.work);
+    if (olds.join('') === nows.join('')) {
+      // White space alone differs, so lines stay only where as much is before them.
+      const [x, y] = [olds, nows].map(sizesBefore);
+      pairs = pairs.filter(([p, q]) => x[p] === y[q]);
+    }
     let [a, b, i, j] = [0, 0, 0, 0];
-    for (const [x, y] of [...align(olds, nows, true, this.work), [old.length, now.length]]) {
+    for (const [x, y] of [...pairs, [old.length, now.length]]) {
       if (x > i && y > j) this.#changedLines(a, old.slice(i, x), b, now.slice(j, y));
       if (x === old.length) break;
       const [p, q] = [a + sizeOf(old, i, x), b + sizeOf(now, j, y)];

@@ -1,4 +1,4 @@
-// Tests of texts, changes and sessions, and those of test-files.js and test-mailbox.js: `node --test test.js` in this folder.
+// Tests of texts, changes and sessions, and those of test-files.js, test-mailbox.js and test-reflow.js: `node --test test.js` in this folder.
 import assert from 'node:assert/strict';
 import { execFileSync, spawn } from 'node:child_process';
 import fs from 'node:fs';
@@ -9,6 +9,7 @@ import { applied, compared, crossed, placeAfter, Refused, RlsError, Session, Tex
 import { exchange, folders, opened, pick, random, rls, room, stored, type, version } from './room.js';
 import './test-files.js';
 import './test-mailbox.js';
+import './test-reflow.js';
 
 test('places in units and in characters', () => {
   let string = '';

@@ -2,6 +2,7 @@
 import re
 from bisect import bisect_left
 from collections import defaultdict
+from itertools import accumulate
 from typing import DefaultDict, List, NamedTuple, Sequence, Tuple
 
 STEPS = 128                 # members that go or come, after which it looks back and goes on from where it is
@@ -396,8 +397,12 @@ class _Comparison:
     def compare(self) -> None:
         old, new = LINE.findall(self.old), LINE.findall(self.new)
         keys = [_without_spaces(self.old)[:len(old)], _without_spaces(self.new)[:len(new)]]
+        pairs = _align(*keys, True, self.work)
+        if "".join(keys[0]) == "".join(keys[1]):        # white space alone differs, so lines stay only where as much is before them
+            before = [list(accumulate(map(len, side), initial=0)) for side in keys]
+            pairs = [(x, y) for x, y in pairs if before[0][x] == before[1][y]]
         a = b = i = j = 0
-        for x, y in _align(*keys, True, self.work) + [(len(old), len(new))]:
+        for x, y in pairs + [(len(old), len(new))]:
             p, q = a + sum(map(len, old[i:x])), b + sum(map(len, new[j:y]))
             if x > i and y > j:
                 self.changed_lines(a, old[i:x], b, new[j:y])

@@ -397,6 +397,14 @@ function Comparison:changed_lines(a, old, b, new)
   end
 end
 
+local function sizes_before(parts)
+  local found, size = {}, 0
+  for k, part in ipairs(parts) do
+    found[k], size = size, size + #part
+  end
+  return found
+end
+
 function Comparison:compare()
   local old, new = lines_of(self.old), lines_of(self.new)
   local function keys(lines)
@@ -404,7 +412,14 @@ function Comparison:compare()
     for k, line in ipairs(lines) do found[k] = line:gsub('[\t-\r ]+', '') end
     return found
   end
-  local pairs = align(keys(old), keys(new), true, self.work)
+  local olds, news = keys(old), keys(new)
+  local pairs = {}
+  local is_same = table.concat(olds) == table.concat(news)
+  local x, y = sizes_before(olds), sizes_before(news)
+  for _, pair in ipairs(align(olds, news, true, self.work)) do
+    -- If white space alone differs, lines stay only where as much is before them.
+    if not is_same or x[pair[1]] == y[pair[2]] then pairs[#pairs + 1] = pair end
+  end
   pairs[#pairs + 1] = { #old + 1, #new + 1 }
   local a, b, i, j = 0, 0, 1, 1
   for _, pair in ipairs(pairs) do

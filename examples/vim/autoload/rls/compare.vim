@@ -293,6 +293,16 @@ def Lines(text: list<number>, ends: list<number>): list<string>
   return mapnew(ends, (k, end) => list2str(text[k > 0 ? ends[k - 1] : 0 : end - 1]))
 enddef
 
+def SizesBefore(parts: list<string>): list<number>
+  var sizes: list<number> = []
+  var size = 0
+  for part in parts
+    add(sizes, size)
+    size += len(part)
+  endfor
+  return sizes
+enddef
+
 # Where two texts, which are lists of characters, differ, from the first place to the last: where each begins and ends in the old and in the new text.
 export def Compared(gone: list<number>, come: list<number>): list<list<number>>
   # No string of Vim has the character 0.
@@ -309,7 +319,13 @@ export def Compared(gone: list<number>, come: list<number>): list<list<number>>
   const lines = [Lines(old, olds), Lines(new, news)]
   const keys = [Keys(lines[0]), Keys(lines[1])]
   var [a, b, i, j] = [0, 0, 0, 0]
-  for [x, y] in add(align.Align(keys[0], keys[1], true), [len(olds), len(news)])
+  var pairs = align.Align(keys[0], keys[1], true)
+  if join(keys[0], '') ==# join(keys[1], '')
+    # White space alone differs, so lines stay only where as much is before them.
+    const before = mapnew(keys, (_, side) => SizesBefore(side))
+    filter(pairs, (_, x) => before[0][x[0]] == before[1][x[1]])
+  endif
+  for [x, y] in add(pairs, [len(olds), len(news)])
     const p = x > 0 ? olds[x - 1] : 0
     const q = y > 0 ? news[y - 1] : 0
     if x > i && y > j
