@@ -136,6 +136,7 @@ play_twice() {
   begin_with "$1" Start 'i 0 Start'
   type_at_end ' one'
   ben_has 'what member 0 typed' 'Start one'
+  rm -rf "$room/twin" "$room/apart" "$room/gone"               # another play may have left some of them
   mkdir -p "$room/twin" "$room/apart"
   (cd "$room/twin" && "$RLS" new 7 0 2 >/dev/null)
   other=${1//$room\/ada/$room\/twin}
