@@ -8,6 +8,7 @@ use Rattle.rls_blocks.specs.Trees.{Piece, IsPiece, ArePieces, piece_entries, ent
 use Rattle.rls_blocks.specs.Patches.{before, after, IsBetween, patched, ArePatches}
 use Rattle.rls_ident.specs.Identifiers.{follows}
 use Rattle.rls_runs.specs.Runs.{run_last}
+use Rattle.rls_runs.specs.Entries.{Entries}
 use Rattle.rls_runs.proofs.RunOrder.{run_some}
 use Rattle.rls_blocks.specs.Edits.{joined, goes_on, are_loose, Shows}
 use Rattle.rls_blocks.proofs.Loose.{last_run}
@@ -107,6 +108,9 @@ patches_more [] f g a h = tt
 patches_more (p ∷ ps) f g a h = (h.0, between_in f g a p.from h.1, between_in f g a p.to h.2, subst (ArePatches ps) (sym (before_in f g a p.from h.1)) h.3)
 
 -- ---- a block more, after the others
+
+pub items_show : {es : Entries} {bs cs : List Piece} → cs ≡ bs → Shows es bs → Shows es cs
+items_show {es = es} e s = subst (λ xs. Shows es xs) (sym e) s
 
 pub pushed_new : (bs : List Piece) (n : Piece) → are_loose None (runs_in bs) ≡ true → goes_on (last_run bs) n.0.0 ≡ false → Shows (entries_of bs ++ piece_entries n) (bs ++ n ∷ [])
 pushed_new bs n h a =

@@ -1,4 +1,5 @@
 //! Blocks, each a run of identifiers with its characters, as a balanced tree; and what is put into such a tree or taken out of it.
+//! Why: docs/DECISIONS.md, 101.
 #![tactic(auto)]
 
 mod balance;

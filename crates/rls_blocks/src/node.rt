@@ -1,4 +1,5 @@
 //! Nodes of the tree.
+//! Why: CHOICES.md, 53.
 
 ghost use Rattle.std.specs.Prelude.{◌≡◌, ℕ, ◌+◌, ◌^◌, ◌<◌, ◌≤◌, max, [], ◌∷◌, ◌++◌, length, Some, None, IfSome, IfNone, OnOk, IsTrue, encode_utf8_all};
 ghost use Rattle.std.specs.String.{string_bytes};

@@ -1,9 +1,10 @@
 //! Blocks that take the place of others.
 
-ghost use Rattle.std.specs.Prelude.{◌≡◌, ◌+◌, ◌^◌, ◌<◌, ◌≤◌, ◌++◌, length, reverse, zip, None, IfOk, OnOk, IsTrue};
-ghost use Rattle.rls_runs.specs.Runs.{idents_of};
+ghost use Rattle.std.specs.Prelude.{◌≡◌, ◌+◌, ◌^◌, ◌<◌, ◌≤◌, [], ◌∷◌, ◌++◌, length, take, drop, reverse, zip, None, IfOk, OnOk, IsTrue};
+ghost use Rattle.rls_ident.specs.Identifiers.{follows};
+ghost use Rattle.rls_runs.specs.Runs.{run_last, idents_of};
 ghost use Rattle.rls_blocks.specs.Trees.{ArePieces, entries_of, piece_entries, runs_in};
-ghost use Rattle.rls_blocks.specs.Edits.{are_loose, Shows};
+ghost use Rattle.rls_blocks.specs.Edits.{are_loose, joined, Shows};
 ghost use Rattle.rls_blocks.specs.Patches.{before, after, IsBetween, patched, ArePatches};
 
 use crate::block::{Block, part_of_text};
@@ -46,21 +47,39 @@ pub fn push_block(blocks: &mut Vec<Block>, block: Block) -> Result<(), AllocErro
     requires loose { IsTrue (are_loose None (runs_in blocks.old.items)) }
     ensures shows { OnOk result (Shows (entries_of blocks.old.items ++ piece_entries block) blocks.new.items) }
 {
-    rely!(let _len = block.len());
-    let Some(mut last) = blocks.pop() else {
-        blocks.push(block)?;
-        return Ok(());
-    };
-    rely!(let _last = last.len());
+    match blocks.pop() {
+        None => {
+            blocks.push(block)?;
+            Ok(())
+        }
+        Some(last) => push_after(blocks, last, block),
+    }
+}
+
+// Puts two blocks after others, as one if the second goes on with the first.
+fn push_after(blocks: &mut Vec<Block>, last: Block, block: Block) -> Result<(), AllocError>
+    requires loose { IsTrue (are_loose None (runs_in (blocks.old.items ++ last ∷ []))) }
+    ensures shows { OnOk result (Shows (entries_of (blocks.old.items ++ last ∷ []) ++ piece_entries block) blocks.new.items) }
+{
+    rely!(let (_last, _len) = (last.len(), block.len()));
     if last.run().touches(block.run().first()) {
-        let (run, text) = block.into_parts();
-        last.extend(&run, &text)?;
-        blocks.push(last)?;
+        let both = joined(last, block)?;
+        blocks.push(both)?;
         return Ok(());
     }
     blocks.push(last)?;
     blocks.push(block)?;
     Ok(())
+}
+
+// A block and one that goes on with it, as one.
+fn joined(last: Block, block: Block) -> Result<Block, AllocError>
+    requires touches { IsTrue (follows block.0.0 (run_last last.0)) }
+    ensures joined { IfOk result (λ both. both ≡ joined last block) }
+{
+    let mut both = last;
+    both.extend(block.run(), block.text())?;
+    Ok(both)
 }
 
 /// Puts runs with the characters of a text after other blocks, and joins those that touch. It costs the characters, and moves them if
@@ -76,18 +95,37 @@ pub fn push_runs(
     ensures shows { OnOk result (Shows (entries_of blocks.old.items ++ zip (idents_of runs.now) text) blocks.new.items) }
 {
     if runs.len() == 1 {
-        let own = runs[0].copy()?;
-        return push_block(blocks, Block::new(own, text));
+        return push_run(blocks, &runs[0], text);
     }
     rely!(let _chars = text.len());
     let mut at = 0;
     for run in runs {
-        let own = run.copy()?;
-        let part = part_of_text(alloc, &text, at, run.len() as usize)?;
-        push_block(blocks, Block::new(own, part))?;
+        let block = block_at(alloc, run, &text, at)?;
+        push_block(blocks, block)?;
         at += run.len() as usize;
     }
     Ok(())
+}
+
+// The same of one run with all characters of the text.
+fn push_run(blocks: &mut Vec<Block>, run: &Run, text: Text) -> Result<(), AllocError>
+    requires loose { IsTrue (are_loose None (runs_in blocks.old.items)) }
+    requires as_many { length text ≡ run.now.1 }
+    ensures shows { OnOk result (Shows (entries_of blocks.old.items ++ piece_entries (run.now, text)) blocks.new.items) }
+{
+    let own = run.copy()?;
+    push_block(blocks, Block::new(own, text))
+}
+
+// The block of a run with the characters of a text from a place on.
+fn block_at(alloc: Global, run: &Run, text: &Text, at: usize) -> Result<Block, AllocError>
+    requires within { at + run.now.1 ≤ length text.now }
+    ensures block { IfOk result (λ block. block ≡ (run.now, take run.now.1 (drop at text.now))) }
+{
+    rely!(let _chars = text.len());
+    let own = run.copy()?;
+    let part = part_of_text(alloc, text, at, run.len() as usize)?;
+    Ok(Block::new(own, part))
 }
 
 /// The tree with each patch in the place of the blocks between its places. It costs a few steps for each level and each

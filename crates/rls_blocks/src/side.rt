@@ -1,4 +1,5 @@
 //! Sides.
+//! Why: CHOICES.md, 190.
 
 ghost use Rattle.std.specs.Prelude.{◌≡◌};
 ghost use Rattle.rls_blocks.specs.Edits.{opposite};

@@ -1,7 +1,7 @@
 -- Known images, and those of parts of their runs.
-use Rattle.std.proofs.Common.{◌≡◌, ℕ, ◌+◌, ◌-◌, ◌<◌, ◌≤◌, List, [], ◌∷◌, ◌++◌, map, length, get_or, take, drop, true, pos, Ok, refl, sym, ap, ◌∙◌, subst, append_assoc, length-append, arith}
+use Rattle.std.proofs.Common.{◌≡◌, ℕ, ◌+◌, ◌-◌, ◌<◌, ◌≤◌, List, [], ◌∷◌, ◌++◌, map, length, take, drop, true, pos, Ok, refl, sym, ap, ◌∙◌, subst, append_assoc, length-append, arith}
 use Rattle.std.specs.List.{drop-map, list_all, take-map}
-use Rattle.std.proofs.lemmas.List.{append-nil, drop-append-le, length-map, map-append, take-append-le, take_all}
+use Rattle.std.proofs.lemmas.List.{drop-append-le, length-map, map-append, take-append-le, take_all}
 use Rattle.std.proofs.lemmas.List.Elements.{All-nil, All-same}
 use Rattle.std.proofs.Math.ListN.{drop_of_length-le}
 use Rattle.rls_ident.specs.declared.tuple.Tuple.{Tuple}
@@ -13,7 +13,7 @@ use Rattle.rls_rename.proofs.Growth.{translate_back, translate_same}
 use Rattle.rls_rename.proofs.Paths.{translate_translate}
 use Rattle.rls_rename.proofs.GapPlaces.{gap_there, gap_within}
 use Rattle.rls_runs.specs.Places.{last_ident, is_above}
-use Rattle.rls_runs.specs.Runs.{run_idents, is_increasing, is_run, place_of, IsImage}
+use Rattle.rls_runs.specs.Runs.{run_idents, is_increasing, is_run, place_of}
 use Rattle.rls_runs.proofs.Finding.{run_length}
 use Rattle.rls_runs.proofs.RunJoins.{run_longer}
 use Rattle.rls_runs.proofs.RunOrder.{run_gets}
@@ -93,13 +93,6 @@ part_above f xs x y n k m h some e up =
 pub image_count : (f : List Tuple → List Tuple) (xs : List (List Tuple)) (x : List Tuple) (k : ℕ) → length (xs ++ map f (run_idents x k)) ≡ length xs + k
 image_count f xs x k = omega (arith, length-append xs (map f (run_idents x k)), length-map (run_idents x k) f, run_length x k)
 
--- ---- a run alone
-
-pub alone_image : (f : List Tuple → List Tuple) (run image : List Tuple × ℕ) (rs : List (List Tuple × ℕ)) → IsImage f run rs → 0 < length rs → length rs < 2 → image ≡ get_or rs 0 image → run_idents image.0 image.1 ≡ map f (run_idents run.0 run.1)
-alone_image f run image [] i h l g = absurd (omega arith)
-alone_image f run image (r ∷ []) i h l g = subst (λ (q : List Tuple × ℕ). run_idents q.0 q.1 ≡ map f (run_idents run.0 run.1)) (sym g) (sym (append-nil (run_idents r.0 r.1)) ∙ i.idents)
-alone_image f run image (r ∷ (s ∷ rs)) i h l g = absurd (omega arith)
-
 -- ---- what is known
 
 -- by a map that changes nothing
@@ -126,10 +119,9 @@ map_goes_on ns d e m f g h xs ys a q =
     ∙ (map_then g (translate ns m f) xs ∙ map_agrees (λ x. translate ns m f (g x)) (translate ns e f) (λ x i. ap (translate ns m f) (h x i) ∙ translate_translate ns e m f x d i) xs a)
 
 -- the image of a run that goes a step as one run
-pub image_before : (ns : List Node) → AreNodes ns → (e m f : EpochName) (g : List Tuple → List Tuple) → ((x : List Tuple) → IsIdent x → g x ≡ translate ns e m x) → (run moved image : List Tuple × ℕ) (rs : List (List Tuple × ℕ)) → is_run run ≡ true → IsImage g run rs → 0 < length rs → length rs < 2 → moved ≡ get_or rs 0 moved → run_idents image.0 image.1 ≡ map (translate ns m f) (run_idents moved.0 moved.1) →
+pub image_before : (ns : List Node) → AreNodes ns → (e m f : EpochName) (g : List Tuple → List Tuple) → ((x : List Tuple) → IsIdent x → g x ≡ translate ns e m x) → (run image : List Tuple × ℕ) → is_run run ≡ true → run_idents image.0 image.1 ≡ map (translate ns m f) (map g (run_idents run.0 run.1)) →
     run_idents image.0 image.1 ≡ map (translate ns e f) (run_idents run.0 run.1)
-image_before ns d e m f g h run moved image rs u i some one item q =
-    q ∙ map_goes_on ns d e m f g h (run_idents run.0 run.1) (run_idents moved.0 moved.1) (run_idents_are run u) (alone_image g run moved rs i some one item)
+image_before ns d e m f g h run image u q = q ∙ map_goes_on ns d e m f g h (run_idents run.0 run.1) (map g (run_idents run.0 run.1)) (run_idents_are run u) refl
 
 -- ---- tables
 

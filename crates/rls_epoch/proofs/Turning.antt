@@ -46,23 +46,23 @@ run_alike f g (suc n) x y h =
     let later = run_alike f g n (shifted (pos 1) x) (shifted (pos 1) y) (λ k. ap f (twice y k) ∙ (h (suc k) ∙ ap g (sym (twice x k)))) in
     ap (λ t. t ∷ map f (run_idents (shifted (pos 1) y) n)) one ∙ ap (λ ts. g x ∷ ts) later
 
-pub first_moves : (ps : List Placed) (s : Step) (xs new : List Tuple) (n : ℕ) (h z : List Tuple) → 0 < n → n ≤ length xs → h ≡ reverse (drop n xs) → Replaces (step_map ps s) h z → new ≡ take n xs ++ reverse z → Moves ps s (reverse xs) (reverse new)
-first_moves ps s xs new n h z l w e r i k =
+pub first_moves : (ps : List Placed) (s : Step) (xs new : List Tuple) (n : ℕ) (front : List Tuple) → 0 < n → n ≤ length xs → Replaces (step_map ps s) (reverse (drop n xs)) (reverse front) → new ≡ take n xs ++ front → Moves ps s (reverse xs) (reverse new)
+first_moves ps s xs new n front l w r i k =
     let some : 0 < length (take n xs) = omega (arith, length-take n xs) in
     ap (λ t. step_map ps s (shifted (pos k) (reverse t))) (sym (take-append-drop n xs))
-    ∙ (head_moves ps s (take n xs) (drop n xs) h z some e r k ∙ ap (λ t. shifted (pos k) (reverse t)) (sym i))
+    ∙ (head_moves ps s (take n xs) (drop n xs) (reverse (drop n xs)) (reverse front) some refl r k ∙ ap (λ t. shifted (pos k) (reverse t)) (ap (λ ys. take n xs ++ ys) (reverse-reverse front) ∙ sym i))
 
 pub within_at : (n : ℕ) (steps : List Step) (k : ℕ) (d : Step) → AreWithin n steps → k < length steps → place_of_step (get_or steps k d) < n
 within_at n [] k d w l = absurd (omega arith)
 within_at n (s ∷ steps) zero d w l = w.0
 within_at n (s ∷ steps) (suc k) d w l = within_at n steps k d w.1 (omega arith)
 
-pub run_led_ahead : (ps : List Placed) (steps : List Step) (n : ℕ) (ahead : List (List Tuple)) (r : List Tuple × ℕ) (t u y : List Tuple) → t ≡ reverse r.0 → IsAhead ps steps (reverse t) n (reverse u) → y ≡ reverse u → ahead ≡ run_idents y r.1 →
+pub run_led_ahead : (ps : List Placed) (steps : List Step) (n : ℕ) (ahead : List (List Tuple)) (r : List Tuple × ℕ) (t u : List Tuple) → t ≡ reverse r.0 → IsAhead ps steps (reverse t) n (reverse u) → ahead ≡ run_idents (reverse u) r.1 →
     map (led ps (drop n steps)) ahead ≡ map (led ps steps) (run_idents r.0 r.1)
-run_led_ahead ps steps n ahead r t u y e a f i =
+run_led_ahead ps steps n ahead r t u e a i =
     let first : reverse t ≡ r.0 = ap reverse e ∙ reverse-reverse r.0 in
-    let same : (k : ℕ) → led ps (drop n steps) (shifted (pos k) y) ≡ led ps steps (shifted (pos k) r.0) = λ k. ap (λ x. led ps (drop n steps) (shifted (pos k) x)) f ∙ (a k ∙ ap (λ x. led ps steps (shifted (pos k) x)) first) in
-    ap (map (led ps (drop n steps))) i ∙ run_alike (led ps (drop n steps)) (led ps steps) r.1 r.0 y same
+    let same : (k : ℕ) → led ps (drop n steps) (shifted (pos k) (reverse u)) ≡ led ps steps (shifted (pos k) r.0) = λ k. a k ∙ ap (λ x. led ps steps (shifted (pos k) x)) first in
+    ap (map (led ps (drop n steps))) i ∙ run_alike (led ps (drop n steps)) (led ps steps) r.1 r.0 (reverse u) same
 
 -- ---- several steps at once
 

@@ -57,14 +57,10 @@ impl Nodes {
         if count == 0 {
             return Ok(None);
         }
-        let Some(first) = ident_of(self.allocator(), &turned)? else {
-            return Ok(None);
-        };
-        let Ok(run) = Run::new(first, run.len()) else {
-            return Ok(None);
-        };
-        let ahead = Runs::from_run(self.allocator(), run)?;
-        Ok(Some((ahead, count)))
+        match run_of(self.allocator(), &turned, run.len())? {
+            Some(ahead) => Ok(Some((ahead, count))),
+            None => Ok(None),
+        }
     }
 
     // Takes the tuples to those of the identifier n steps on, and answers n: its first tuples decide
@@ -114,16 +110,26 @@ impl Nodes {
     {
         let rest = turned.len() - count;
         let (_, first) = turned.as_slice().split_at(rest);
-        let Some(head) = ident_of(self.allocator(), first)? else {
+        let Some(front) = self.front_moved(step, first)? else {
             return Ok(false);
         };
-        let Some(moved) = self.head_moved(step, &head)? else {
-            return Ok(false);
-        };
-        let front = turned_tuples(self.allocator(), &moved)?;
         turned.truncate(rest);
         turned.extend_from_slice(&front)?;
         Ok(true)
+    }
+
+    // What a step puts in the place of these first tuples, if they are an identifier and decide it. Both are in reverse.
+    fn front_moved(&self, step: Step, first: &[Tuple]) -> Result<Option<Vec<Tuple>>, AllocError>
+        requires within { place_of_step step < length self.now.placed }
+        ensures replaces { IfOk result (λ front. IfSome front (λ z. Replaces (step_map self.now.placed step) (reverse first.now) (reverse z.items))) }
+    {
+        let Some(head) = ident_of(self.allocator(), first)? else {
+            return Ok(None);
+        };
+        match self.head_moved(step, &head)? {
+            Some(moved) => Ok(Some(turned_tuples(self.allocator(), &moved)?)),
+            None => Ok(None),
+        }
     }
 
     // What a step down puts in the place of the first tuples, if these decide it. It isn't tried for a step up.
@@ -148,6 +154,19 @@ fn ident_of(alloc: Global, turned: &[Tuple]) -> Result<Option<Ident>, AllocError
     match Ident::from_tuples(alloc, &tuples) {
         Ok(id) => Ok(Some(id)),
         Err(IdentError::OutOfMemory) => Err(AllocError),
+        Err(_) => Ok(None),
+    }
+}
+
+// The run of this length from the identifier whose tuples these are in reverse, if they are one and there is such a run.
+fn run_of(alloc: Global, turned: &[Tuple], len: u32) -> Result<Option<Runs>, AllocError>
+    ensures run { IfOk result (λ runs. IfSome runs (λ xs. xs ≡ run_idents (reverse turned.now) len)) }
+{
+    let Some(first) = ident_of(alloc, turned)? else {
+        return Ok(None);
+    };
+    match Run::new(first, len) {
+        Ok(run) => Ok(Some(Runs::from_run(alloc, run)?)),
         Err(_) => Ok(None),
     }
 }

@@ -1,5 +1,6 @@
 //! The jumps of nodes, by which the way up from an epoch takes a number of steps that is logarithmic in
 //! its depth (skew-binary jump pointers: Myers).
+//! Why: CHOICES.md, 160.
 
 ghost use Rattle.std.specs.Prelude.{◌≡◌, ◌≤◌, ◌<◌, ◌^◌, ◌-◌, suc, length, List};
 ghost use Rattle.rls_ident.specs.declared.epoch_name.EpochName.{EpochName};

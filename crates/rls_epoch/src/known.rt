@@ -1,6 +1,7 @@
 //! Images that are known. A member that was away has made one deletion after another in an early epoch, and mostly of former
 //! identifiers. So a run of these that is one run in another epoch, too, is kept with that run. Then the image of any part of it is
 //! found without a step.
+//! Why: CHOICES.md, 95.
 
 ghost use Rattle.std.specs.Prelude.{◌≡◌, ◌+◌, ◌<◌, ◌≤◌, ◌^◌, ◌++◌, [], length, map, pos, IfOk, IfSome, IsTrue};
 ghost use Rattle.rls_ident.specs.Identifiers.{shifted};

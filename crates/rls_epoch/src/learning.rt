@@ -1,11 +1,13 @@
 //! How images become known: of an identifier with those beside it that are in the same former run at each step of a way. Those at the
 //! places of the way at which translations look become known too, where more are beside it there.
+//! Why: CHOICES.md, 191.
 
-ghost use Rattle.std.specs.Prelude.{◌≡◌, ◌+◌, ◌<◌, ◌≤◌, List, length, IfOk, IfSome};
+ghost use Rattle.std.specs.Prelude.{◌≡◌, ◌+◌, ◌<◌, ◌≤◌, List, length, map, IfOk, IfSome};
 ghost use Rattle.std.specs.List.{All};
 ghost use Rattle.rls_ident.specs.declared.tuple.Tuple.{Tuple};
 ghost use Rattle.rls_ident.specs.Identifiers.{IsIdent};
 ghost use Rattle.rls_rename.specs.Tree.{translate};
+ghost use Rattle.rls_runs.specs.Runs.{run_idents};
 ghost use Rattle.rls_epoch.specs.KnownRuns.{IsKnown};
 ghost use Rattle.rls_epoch.specs.Seen.{nodes_of};
 ghost use Rattle.rls_epoch.specs.Ways.{AreWithin, place_of_step, step_map};
@@ -140,18 +142,37 @@ impl Nodes {
         ensures within { IfOk result (λ n. i + n ≤ run.now.1) }
         ensures same { self.new ≡ self.old }
     {
-        let (start, end) = (self.epoch_of(from), self.epoch_of(to));
-        let first = match self.known.next_part(&self.list, start, end, run, i)? {
-            Ok(part) => return Ok(part.len()),
+        let first = match self.next_count(from, to, run, i)? {
+            Ok(count) => return Ok(count),
             Err(first) => first,
         };
         if self.number_along(from, to, 1) == to {
             return Ok(0);
         }
         self.learn(from, to, &first)?;
-        match self.known.next_part(&self.list, start, end, run, i)? {
-            Ok(part) => Ok(part.len()),
+        match self.next_count(from, to, run, i)? {
+            Ok(count) => Ok(count),
             Err(_) => Ok(0),
+        }
+    }
+
+    // How many identifiers of a run from an index on have images that are known. If that of the first one isn't, it answers this one.
+    fn next_count(
+        &self,
+        from: usize,
+        to: usize,
+        run: &Run,
+        i: u32,
+    ) -> Result<Result<u32, Ident>, AllocError>
+        requires from { from ≤ length self.now.placed }
+        requires to { to ≤ length self.now.placed }
+        requires index { i < run.now.1 }
+        ensures within { IfOk result (λ count. IfOk count (λ n. i + n ≤ run.now.1)) }
+    {
+        let (start, end) = (self.epoch_of(from), self.epoch_of(to));
+        match self.known.next_part(&self.list, start, end, run, i)? {
+            Ok(part) => Ok(Ok(part.len())),
+            Err(first) => Ok(Err(first)),
         }
     }
 
@@ -162,27 +183,33 @@ impl Nodes {
         requires to { to ≤ length self.old.placed }
         ensures same { self.new ≡ self.old }
     {
-        let Some(route) = self.route(from, to, id)? else {
+        let Some(mut route) = self.route(from, to, id)? else {
             return Ok(());
         };
-        let Route {
-            mut stops,
-            end,
-            mut known,
-        } = route;
-        let Some(mut beside) = Beside::within(&known.run, &end) else {
-            return Ok(());
+        let last = self.learn_back(&mut route)?;
+        self.put_both(last)
+    }
+
+    // The same of the steps of a route, the last one first. It answers what is known at the last place at which translations look.
+    fn learn_back(&mut self, route: &mut Route) -> Result<Option<Known>, AllocError>
+        requires stops { All (λ s. place_of_step s.step < length self.old.placed) route.old.stops.items }
+        requires known { IsKnown (nodes_of self.old.placed) route.old.known }
+        ensures same { self.new ≡ self.old }
+        ensures last { IfOk result (λ last. IfSome last (λ k. IsKnown (nodes_of self.old.placed) k)) }
+    {
+        let Some(mut beside) = Beside::within(&route.known.run, &route.end) else {
+            return Ok(None);
         };
         let mut last = None;
-        while let Some(stop) = stops.pop() {
+        while let Some(stop) = route.stops.pop() {
             beside = beside.min(stop.beside);
-            let Some(before) = self.known_before(&stop, beside, &known)? else {
+            let Some(before) = self.known_before(&stop, beside, &route.known)? else {
                 break;
             };
-            known = before;
-            last = self.put_looked(stop.looked, last, &known)?;
+            route.known = before;
+            last = self.put_looked(stop.looked, last, &route.known)?;
         }
-        self.put_both(last)
+        Ok(last)
     }
 
     // What is known at the last place at which translations look, after this one if it is such a place. What is known at the one before is
@@ -243,7 +270,7 @@ impl Nodes {
         let (mut at, mut there) = (from, id.copy()?);
         for doublings in 0..u32::BITS {
             let next = self.number_along(at, to, 1 << doublings);
-            there = self.follow(&self.way_from(at, next)?, there, &mut stops)?;
+            there = self.follow_way(at, next, there, &mut stops)?;
             at = next;
             if at == to {
                 break;
@@ -299,6 +326,23 @@ impl Nodes {
         Ok(at)
     }
 
+    // The same over the way between two epochs, by their numbers.
+    fn follow_way(
+        &self,
+        from: usize,
+        to: usize,
+        id: Ident,
+        stops: &mut Vec<Stop>,
+    ) -> Result<Ident, AllocError>
+        requires from { from ≤ length self.now.placed }
+        requires to { to ≤ length self.now.placed }
+        requires stops { All (λ s. place_of_step s.step < length self.now.placed) stops.old.items }
+        ensures stops { All (λ s. place_of_step s.step < length self.now.placed) stops.new.items }
+    {
+        let steps = self.way_from(from, to)?;
+        self.follow(&steps, id, stops)
+    }
+
     // A step is put after the others, if what is beside the identifier there is told. Else these are taken away.
     fn put_stop(
         &self,
@@ -344,11 +388,7 @@ impl Nodes {
             return Ok(None);
         };
         rely!(let (_count, _len) = (self.count(), run.len()));
-        let images = self.run_moved(stop.step, &run)?;
-        let [moved] = images.as_slice() else {
-            return Ok(None);
-        };
-        let Some(image) = after.image_of(&self.list, moved)? else {
+        let Some(image) = self.image_before(stop.step, &run, after)? else {
             return Ok(None);
         };
         Ok(Some(Known {
@@ -357,6 +397,19 @@ impl Nodes {
             run,
             image,
         }))
+    }
+
+    // The image of a run before a step, if it goes the step as one run, of which all is known after it.
+    fn image_before(&self, step: Step, run: &Run, after: &Known) -> Result<Option<Run>, AllocError>
+        requires within { place_of_step step < length self.now.placed }
+        requires known { IsKnown (nodes_of self.now.placed) after.now }
+        ensures image { IfOk result (λ image. IfSome image (λ r. run_idents r.0 r.1 ≡ map (translate (nodes_of self.now.placed) after.now.from after.now.to) (map (step_map self.now.placed step) (run_idents run.now.0 run.now.1)))) }
+    {
+        let images = self.run_moved(step, run)?;
+        match images.as_slice() {
+            [moved] => after.image_of(&self.list, moved),
+            _ => Ok(None),
+        }
     }
 
     // The epochs before and after a step.

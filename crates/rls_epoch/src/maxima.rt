@@ -1,4 +1,5 @@
 //! Maxima: each node has the number of the greatest of the epochs that its member opened up to it.
+//! Why: CHOICES.md, 94.
 
 ghost use Rattle.std.specs.Prelude.{◌≡◌, ℕ, ◌-◌, ◌<◌, ◌≤◌, suc, length, slice_index, IsTrue, IsFalse};
 ghost use Rattle.rls_ident.specs.EpochNames.{is_of_member};

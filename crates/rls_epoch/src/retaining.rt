@@ -1,4 +1,5 @@
 //! What is retained of a tree.
+//! Why: docs/DECISIONS.md, 13.
 
 ghost use Rattle.std.specs.Prelude.{◌≡◌, ◌<◌, ◌≤◌, ◌^◌, suc, ◌++◌, length, sum_by, IfOk, IsTrue};
 ghost use Rattle.rls_ident.specs.declared.epoch_name.EpochName.{EpochName};

@@ -1,5 +1,6 @@
 //! Translation between any two epochs. It looks for what is known, and where that isn't enough, it goes one step, two more, four more
 //! and so on, and looks again each time: runs that a renaming has made one are mostly known together from there on.
+//! Why: CHOICES.md, 192.
 
 ghost use Rattle.std.specs.Prelude.{◌≡◌, ◌≤◌, length, map, IfOk};
 ghost use Rattle.rls_rename.specs.Tree.{translate};
@@ -59,10 +60,10 @@ impl Nodes {
         requires to { to ≤ length self.now.placed }
         ensures translated { IfOk result (λ x. x ≡ translate (nodes_of self.now.placed) (epoch_at self.now.top self.now.placed from) (epoch_at self.now.top self.now.placed to) id.now) }
     {
-        rely!(let (_count, _len) = (self.count(), id.len()));
         if from == to || self.known.is_empty() {
-            return self.ident_led(&self.way_from(from, to)?, id);
+            return self.ident_walked(from, to, id);
         }
+        rely!(let _count = self.count());
         let end = self.epoch_of(to);
         let (mut at, mut there) = (from, id.copy()?);
         for doublings in 0..u32::BITS {
@@ -75,11 +76,21 @@ impl Nodes {
             if next == to {
                 break;
             }
-            there = self.ident_led(&self.way_from(at, next)?, &there)?;
+            there = self.ident_walked(at, next, &there)?;
             at = next;
         }
-        rely!(let _len = there.len());
-        self.ident_led(&self.way_from(at, to)?, &there)
+        self.ident_walked(at, to, &there)
+    }
+
+    // The same, by each step of the way.
+    fn ident_walked(&self, from: usize, to: usize, id: &Ident) -> Result<Ident, AllocError>
+        requires from { from ≤ length self.now.placed }
+        requires to { to ≤ length self.now.placed }
+        ensures translated { IfOk result (λ x. x ≡ translate (nodes_of self.now.placed) (epoch_at self.now.top self.now.placed from) (epoch_at self.now.top self.now.placed to) id.now) }
+    {
+        rely!(let _len = id.len());
+        let steps = self.way_from(from, to)?;
+        self.ident_led(&steps, id)
     }
 
     // A strictly increasing list of identifiers of an epoch in another.
@@ -93,10 +104,10 @@ impl Nodes {
         requires to { to ≤ length self.now.placed }
         ensures translated { IfOk result (λ xs. xs ≡ map (translate (nodes_of self.now.placed) (epoch_at self.now.top self.now.placed from) (epoch_at self.now.top self.now.placed to)) ids.now) }
     {
-        rely!(let (_count, _total) = (self.count(), ids.total()));
         if from == to || self.known.is_empty() {
-            return self.runs_led(&self.way_from(from, to)?, ids);
+            return self.runs_walked(from, to, ids);
         }
+        rely!(let _count = self.count());
         let end = self.epoch_of(to);
         let (mut at, mut there) = (from, ids.copy()?);
         for doublings in 0..u32::BITS {
@@ -109,10 +120,20 @@ impl Nodes {
             if next == to {
                 break;
             }
-            there = self.runs_led(&self.way_from(at, next)?, &there)?;
+            there = self.runs_walked(at, next, &there)?;
             at = next;
         }
-        rely!(let _total = there.total());
-        self.runs_led(&self.way_from(at, to)?, &there)
+        self.runs_walked(at, to, &there)
+    }
+
+    // The same, by each step of the way.
+    fn runs_walked(&self, from: usize, to: usize, ids: &Runs) -> Result<Runs, AllocError>
+        requires from { from ≤ length self.now.placed }
+        requires to { to ≤ length self.now.placed }
+        ensures translated { IfOk result (λ xs. xs ≡ map (translate (nodes_of self.now.placed) (epoch_at self.now.top self.now.placed from) (epoch_at self.now.top self.now.placed to)) ids.now) }
+    {
+        rely!(let _total = ids.total());
+        let steps = self.way_from(from, to)?;
+        self.runs_led(&steps, ids)
     }
 }

@@ -1,4 +1,5 @@
 //! Ways from one epoch to another: up to the nearest common one, and down from there.
+//! Why: docs/DECISIONS.md, 9.
 
 ghost use Rattle.std.specs.Prelude.{◌≡◌, ◌<◌, ◌≤◌, length, IfOk, IsTrue};
 ghost use Rattle.rls_rename.specs.Tree.{is_kept};

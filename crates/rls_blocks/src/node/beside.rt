@@ -1,4 +1,5 @@
 //! What stands on both sides of a place: one way down.
+//! Why: CHOICES.md, 210.
 
 ghost use Rattle.std.specs.Prelude.{◌≡◌, ◌≤◌, length, None, option_copied, option_map};
 ghost use Rattle.std.specs.Option.{option_or};

@@ -1,4 +1,5 @@
 //! One block of a tree changed in its place: one way down, and the numbers of the nodes on the way back. No node is taken apart.
+//! Why: CHOICES.md, 185, 195.
 
 ghost use Rattle.std.specs.Prelude.{◌≡◌, ◌+◌, ◌^◌, ◌<◌, ◌≤◌, length, IfSome, IfOk, IfErr, OnOk, OnErr};
 ghost use Rattle.rls_blocks.specs.Trees.{entries_of};

@@ -1,5 +1,6 @@
 //! One more block in a tree, after a character: one way down, and the numbers of the nodes on the way back. A node is taken apart only if
 //! the block goes in beside its own, or if one of its sides becomes two levels higher than the other.
+//! Why: CHOICES.md, 199, 209.
 
 ghost use Rattle.std.specs.Prelude.{◌≡◌, ◌+◌, ◌^◌, ◌<◌, ◌≤◌, length, OnOk, OnErr};
 ghost use Rattle.rls_blocks.specs.Trees.{entries_of};

@@ -1,11 +1,10 @@
-use Rattle.std.proofs.Common.{ℕ, List, ◌++◌, length, take, drop, refl, sym, ap, ◌∙◌, subst, arith, append_assoc, length-drop}
+use Rattle.std.proofs.Common.{◌++◌, length, take, drop, refl, sym, ap, ◌∙◌, subst, arith, append_assoc}
 use Rattle.std.specs.Prelude.{zip}
-use Rattle.std.proofs.lemmas.List.{append-nil, take_all, length-take-le}
+use Rattle.std.proofs.lemmas.List.{append-nil, take_all}
 use Rattle.std.proofs.lemmas.Option.{slice_get_read}
 use Rattle.std.proofs.lemmas.Result.{on_ok_weaker}
 use Rattle.std.proofs.lemmas.Slice.Zip.{length-zip}
 use Rattle.std.proofs.Math.Seq.{take-add}
-use Rattle.rls_ident.specs.declared.tuple.Tuple.{Tuple}
 use Rattle.rls_runs.specs.Runs.{idents_of}
 use Rattle.rls_runs.proofs.Finding.{run_length}
 use Rattle.rls_runs.proofs.RunPlaces.{within_total, next_start}
@@ -14,21 +13,19 @@ use Rattle.rls_blocks.specs.Edits.{Shows}
 use Rattle.rls_blocks.proofs.Taken.{single_run, run_taken}
 use Rattle.rls_blocks.proofs.patch.push_runs.Goals as goal
 
-pub new-requires : goal.new-requires
-new-requires c =
+pub push_run-requires : goal.push_run-requires
+push_run-requires c =
     let rs = c.args.runs.now in
     let r = c.index-runs-0.result in
     let one = single_run rs r c.if-runs-eq1.true (slice_get_read rs (length rs) 0 r refl (omega arith) c.index-runs-0.is) in
-    record { as_many = sym c.requires.as_many ∙ ap length one ∙ run_length r.0 r.1 ∙ sym (ap (λ (q : List Tuple × ℕ). q.1) c.in_ok-own.ensures.copy) }
+    record { loose = c.requires.loose; as_many = sym c.requires.as_many ∙ ap length one ∙ run_length r.0 r.1 }
 
 pub returns-then-runs-eq1 : goal.returns-then-runs-eq1
 returns-then-runs-eq1 c =
     let rs = c.args.runs.now in
     let r = c.index-runs-0.result in
-    let cs = c.args.text in
     let one = single_run rs r c.if-runs-eq1.true (slice_get_read rs (length rs) 0 r refl (omega arith) c.index-runs-0.is) in
-    let added = ap (λ (q : Piece). piece_entries q) (c.new.ensures.block ∙ ap (λ q. (q, cs)) c.in_ok-own.ensures.copy) ∙ ap (λ ids. zip ids cs) (sym one) in
-    record { shows = on_ok_weaker c.push_block.result (λ h. subst (λ es. Shows (entries_of c.args.blocks.now.items ++ es) c.push_block.new.blocks.items) added h) c.push_block.ensures.shows }
+    record { shows = on_ok_weaker c.push_run.result (λ h. subst (λ ids. Shows (entries_of c.args.blocks.now.items ++ zip ids c.args.text) c.push_run.new.blocks.items) (sym one) h) c.push_run.ensures.shows }
 
 pub loop-run-init : goal.loop-run-init
 loop-run-init c = record {
@@ -36,32 +33,22 @@ loop-run-init c = record {
   shows = record { entries_are = sym (append-nil (entries_of c.args.blocks.now.items)); loose = c.requires.loose };
 }
 
-pub part_of_text-requires : goal.part_of_text-requires
-part_of_text-requires c =
+pub block_at-requires : goal.block_at-requires
+block_at-requires c =
     let rs = c.args.runs.now in
     let r = c.run-item.result in
     let w = within_total rs c.loop-run.run-index r (slice_get_read rs (length rs) c.loop-run.run-index r refl c.loop-run-test.true c.run-item.is) in
-    record { within = omega (arith, w, c.loop-run.invariant.place, c.len.ensures.len, c.requires.as_many) }
+    record { within = omega (arith, w, c.loop-run.invariant.place, c.requires.as_many) }
 
 pub overflow_add-at : goal.overflow_add-at
 overflow_add-at c =
     let rs = c.args.runs.now in
     let r = c.run-item.result in
     let w = within_total rs c.loop-run.run-index r (slice_get_read rs (length rs) c.loop-run.run-index r refl c.loop-run-test.true c.run-item.is) in
-    omega (arith, w, c.loop-run.invariant.place, c.len-in-loop-run.ensures.len, c.requires.as_many)
+    omega (arith, w, c.loop-run.invariant.place, c.len.ensures.len, c.requires.as_many)
 
-pub new-requires-in-loop-run : goal.new-requires-in-loop-run
-new-requires-in-loop-run c =
-    let rs = c.args.runs.now in
-    let r = c.run-item.result in
-    let rest = drop c.loop-run.at c.args.text in
-    let w = within_total rs c.loop-run.run-index r (slice_get_read rs (length rs) c.loop-run.run-index r refl c.loop-run-test.true c.run-item.is) in
-    let part = c.in_ok-part.ensures.part ∙ ap (λ m. take m rest) c.len.ensures.len in
-    let t = length-take-le r.1 rest (omega (arith, w, c.loop-run.invariant.place, c.requires.as_many, length-drop c.loop-run.at c.args.text)) in
-    record { as_many = ap length part ∙ t ∙ sym (ap (λ (q : List Tuple × ℕ). q.1) c.in_ok-own-2.ensures.copy) }
-
-pub push_block-requires-in-loop-run : goal.push_block-requires-in-loop-run
-push_block-requires-in-loop-run c = record { loose = c.loop-run.invariant.shows.loose }
+pub push_block-requires : goal.push_block-requires
+push_block-requires c = record { loose = c.loop-run.invariant.shows.loose }
 
 pub loop-run-preserved : goal.loop-run-preserved
 loop-run-preserved c =
@@ -72,18 +59,16 @@ loop-run-preserved c =
     let at = c.loop-run.at in
     let r = c.run-item.result in
     let inv = c.loop-run.invariant in
-    let n = c.len-in-loop-run.result in
-    let len = c.len-in-loop-run.ensures.len in
+    let n = c.len.result in
+    let len = c.len.ensures.len in
     let g = slice_get_read rs (length rs) c.loop-run.run-index r refl c.loop-run-test.true c.run-item.is in
-    let part = c.in_ok-part.ensures.part ∙ ap (λ m. take m (drop at cs)) c.len.ensures.len in
-    let block = c.new-in-loop-run.ensures.block ∙ ap (λ q. (q, c.in_ok-part.part)) c.in_ok-own-2.ensures.copy in
-    let is = ap (λ (q : Piece). piece_entries q) block ∙ run_taken rs c.loop-run.run-index at r cs c.in_ok-part.part g inv.place c.requires.as_many part ∙ ap (λ m. take m (drop at added)) (sym len) in
+    let is = ap (λ (q : Piece). piece_entries q) c.in_ok-block.ensures.block ∙ run_taken rs c.loop-run.run-index at r cs (take r.1 (drop at cs)) g inv.place c.requires.as_many refl ∙ ap (λ m. take m (drop at added)) (sym len) in
     let all = ap (λ es. entries_of c.loop-run.blocks.items ++ es) is ∙ ap (λ es. es ++ take n (drop at added)) inv.shows.entries_are
     ∙ append_assoc old (take at added) (take n (drop at added)) ∙ ap (λ es. old ++ es) (sym (take-add at n added)) in
     let s = next_start rs c.loop-run.run-index r g in
     record {
       place = omega (arith, s, inv.place, len);
-      shows = subst (λ es. Shows es c.push_block-in-loop-run.new.blocks.items) all c.in_ok-push_block.ensures.shows;
+      shows = subst (λ es. Shows es c.push_block.new.blocks.items) all c.in_ok-push_block.ensures.shows;
     }
 
 pub returns : goal.returns

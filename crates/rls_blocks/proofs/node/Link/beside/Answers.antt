@@ -1,9 +1,7 @@
-use Rattle.std.proofs.Common.{◌≡◌, ◌+◌, ◌-◌, ◌++◌, ◌∷◌, Some, length, sym, ap, ◌∙◌, arith}
-use Rattle.std.specs.Prelude.{None}
-use Rattle.std.specs.Option.{option_copied, option_map, option_or}
+use Rattle.std.proofs.Common.{◌-◌, length, sym, ap, ◌∙◌, arith}
+use Rattle.std.specs.Option.{option_copied, option_map}
 use Rattle.rls_blocks.specs.Trees.{Piece, entries_of}
-use Rattle.rls_blocks.specs.Edits.{located}
-use Rattle.rls_blocks.specs.Beside.{first_place, last_place, located_before}
+use Rattle.rls_blocks.specs.Beside.{first_place, last_place}
 use Rattle.rls_blocks.proofs.Pieces.{node_length}
 use Rattle.rls_blocks.proofs.Beside.{before_left, behind_left, before_own, behind_own, before_right, behind_right}
 use Rattle.rls_blocks.proofs.node.Link.beside.Goals as goal
