@@ -32,12 +32,3 @@ appends_known None mid new bytes kept grows = tt
 appends_known (Some xs) mid new bytes kept grows =
     let P : Option (List ℕ) → Type 0 = λ m. Grows m new bytes in
     grows_told xs new bytes (subst P kept grows)
-
--- what was read up to the limit and one byte more, and is within the limit, is all that there was
-pub found_known : (told : Option (List ℕ)) (limit : ℕ) (bytes : List ℕ) → length bytes ≤ limit → length bytes < 2 ^ 64 - 1
-    → IfSome (option_map (take (min (limit + 1) (2 ^ 64 - 1))) told) (λ xs. bytes ≡ xs) → IfSome told (λ xs. (Some xs ≡ Some bytes) × (length bytes ≤ limit))
-found_known None limit bytes within small found = tt
-found_known (Some xs) limit bytes within small found =
-    let most = min (limit + 1) (2 ^ 64 - 1) in
-    let all : length xs ≤ most = omega (arith, ap length found, length-take most xs, within, small) in
-    (ap (λ (l : List ℕ). Some l) (sym (found ∙ take_all most xs all)), within)

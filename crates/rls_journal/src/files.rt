@@ -1,5 +1,6 @@
 //! The three areas as files of the system, in the current folder: the trusted edge. They tell no content, so that no clause
 //! says what they give or take, or what a stop leaves of them.
+//! Why: docs/DECISIONS.md, 155; CHOICES.md, 38, 156.
 
 ghost use Rattle.std.specs.Prelude.{◌≡◌, None};
 ghost use Rattle.rls_journal.specs.Disk.{CountsFaults};

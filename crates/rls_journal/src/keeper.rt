@@ -1,4 +1,5 @@
 //! The keeper on a disk.
+//! Why: CHOICES.md, 35.
 
 ghost use Rattle.std.specs.Prelude.{◌≡◌, ◌≤◌, ℕ, List, Option, Some, is_ok, IfOk, OnOk, OnErr, IfSome, IsErrOf};
 ghost use Rattle.std.specs.Option.{option_map};

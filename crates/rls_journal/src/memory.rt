@@ -1,4 +1,5 @@
 //! A disk in memory, which tells all that it holds, and what a crash would have left of it.
+//! Why: CHOICES.md, 37.
 
 ghost use Rattle.std.specs.Prelude.{◌≡◌, ◌+◌, ◌<◌, ◌≤◌, ◌↔◌, [], length, take, Some, false, IsTrue, IsErr, IfOk, OnOk, OnErr};
 ghost use Rattle.rls_journal.specs.Disk.{CountsFaults};

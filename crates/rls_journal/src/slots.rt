@@ -1,4 +1,5 @@
 //! Loading and storing, in the device calls of which they consist.
+//! Why: docs/DECISIONS.md, 154; CHOICES.md, 36.
 
 ghost use Rattle.std.specs.Prelude.{◌≡◌, ◌-◌, ◌<◌, ◌≤◌, [], ℕ, length, Option, Some, None, IfOk, OnOk, IfSome, IsErrOf};
 ghost use Rattle.rls_io.specs.Device.{IsWithin, Rose, Loads, one_more};

@@ -3,8 +3,8 @@
 ghost use Rattle.std.specs.Prelude.{◌≤◌, IfOk};
 
 use rls_io::{
-    FileKeeper, Found, Keeper, MemoryKeeper, MemorySink, MemorySource, ReadError, Source,
-    StdDevice, StoreError, read_all, write_all_of,
+    CurrentFolder, FileKeeper, Found, Keeper, MemoryKeeper, MemorySink, MemorySource, ReadError,
+    Source, StdDevice, StoreError, read_all, write_all_of,
 };
 use std::alloc::Global;
 use std::io::{ErrorKind, PipeReader, PipeWriter, Read, Write};
@@ -232,9 +232,9 @@ fn is_missing(rt: &HostRuntime, name: &str) -> bool {
 fn a_file_is_stored_loaded_and_replaced(rt: HostRuntime) {
     let _ = fs::remove_file(&rt, "replica.rls");
     let alloc = rt.alloc();
-    let mut keeper = FileKeeper::new(&rt);
+    let mut keeper = FileKeeper::new(CurrentFolder::new(&rt));
     assert!(rt; stores(alloc, &mut keeper));
-    assert!(rt; replaces(alloc, &mut FileKeeper::new(&rt)));
+    assert!(rt; replaces(alloc, &mut FileKeeper::new(CurrentFolder::new(&rt))));
     assert!(rt; loads(alloc, &mut keeper, 5, b"new"));
     assert!(rt; is_missing(&rt, "replica.rls.new"));
     assert!(rt; fs::remove_file(&rt, "replica.rls").is_ok());
