@@ -1,5 +1,6 @@
 pub mod Whole
 pub mod Cut
+pub mod Told
 pub mod Targets
 pub mod Changes
 pub mod SameEpoch

@@ -10,5 +10,6 @@ pub mod Bounds
 pub mod Gone
 pub mod Known
 pub mod View
+pub mod Watching
 pub mod Fitting
 pub mod KeptJust

@@ -1,4 +1,5 @@
 //! How an operation is accepted: first all that may want memory, of which the change of the text is the last step, and then the rest.
+//! Why: docs/DECISIONS.md, 47, 143.
 
 ghost use Rattle.std.specs.Prelude.{◌≡◌, ◌+◌, ◌-◌, ◌<◌, ◌≤◌, ◌^◌, ◌++◌, ◌∷◌, [], pos, ◌+ℤ◌, ◌≤ℤ◌, IsSome, IfSome, IfOk, OnOk, OnErr, IsTrue, List, length, map, slice_index, zip, Some, None, IsSomeAnd};
 ghost use Rattle.rls_ident.specs.declared.limits.TheConstants.{IDENTIFIERS};

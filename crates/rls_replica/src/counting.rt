@@ -1,4 +1,5 @@
 //! What a replica drops, and its numbers and parts.
+//! Why: CHOICES.md, 193.
 
 ghost use Rattle.std.specs.Prelude.{◌≡◌, ◌<◌, length, map, IfOk, IsTrue};
 ghost use Rattle.rls_ident.specs.declared.epoch_name.EpochName.{EpochName};

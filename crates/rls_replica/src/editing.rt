@@ -1,4 +1,5 @@
 //! What the member itself does.
+//! Why: docs/DECISIONS.md, 163, 211; CHOICES.md, 201, 215.
 
 ghost use Rattle.std.specs.Prelude.{◌≡◌, ℕ, List, pos, ◌-ℤ◌, ◌+◌, ◌-◌, ◌<◌, ◌≤◌, ◌^◌, ◌≢◌, length, slice_get, Some, None, IfOk, IfErr, OnOk, OnErr};
 ghost use Rattle.rls_ident.specs.declared.limits.TheConstants.{GREATEST_NUMBER};

@@ -32,8 +32,9 @@ pub(crate) struct Gone {
 pub(crate) struct Named {
     // The identifiers, in a few lists: what isn't in them none names.
     pub(crate) lists: Vec<Runs>,
-    // Up to which number each author's deletions name each of them: where that is stable, no unstable one names it. They are there once a
-    // target was met in the lists that only stable deletions name. They go by the last tuples alone, so they don't do without the lists.
+    // For each author, up to which number its deletions name each of them: where that number is stable, no unstable deletion names it.
+    // There are none until a target is met that stands in the lists for stable deletions alone. A bound looks at last tuples only, so it
+    // can't take the place of the lists.
     pub(crate) bounds: Option<Bounds>,
 }
 

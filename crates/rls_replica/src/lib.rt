@@ -1,5 +1,6 @@
 //! A replica: what one member of a group has of the text, and all that may become of it
 //! (RenamableLogootSplit: Nicolas, Oster and Perrin).
+//! Why: CHOICES.md, 54, 83, 103, 176, 177, 178, 186.
 #![tactic(auto)]
 
 mod applying;
@@ -22,6 +23,7 @@ mod restoring;
 mod taking;
 mod translating;
 mod uniting;
+mod watching;
 
 pub use counting::Kept;
 pub use replica::{NewError, Replica};
@@ -29,3 +31,4 @@ pub use rls_model::{Counts, Edit, EditError, Parts, Receipt, Refusal, Refusals, 
 pub use rls_parts::{PartsError, Tested, test_all};
 pub use taking::{SendError, TakeError};
 pub use translating::PastError;
+pub use watching::{Nobody, Watcher};

@@ -1,4 +1,5 @@
 //! What is answered to an operation, before anything changes.
+//! Why: docs/DECISIONS.md, 5.
 
 ghost use Rattle.std.specs.Prelude.{◌≡◌, ◌+◌, ◌<◌, ◌&&◌, not, Some, None, IfOk, IsTrue, is_some, length, if◌then◌else◌};
 ghost use Rattle.rls_ident.specs.declared.epoch_name.EpochName.{EpochName};

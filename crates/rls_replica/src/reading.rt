@@ -1,4 +1,5 @@
 //! What a replica tells of itself.
+//! Why: CHOICES.md, 198.
 
 ghost use Rattle.std.specs.Prelude.{◌≡◌, ℕ, List, ◌+◌, ◌-◌, ◌^◌, ◌<◌, ◌≤◌, length, take, drop, slice_get, Some, IfOk, encode_utf8_all};
 ghost use Rattle.std.specs.String.{string_bytes};
@@ -98,8 +99,8 @@ impl Replica {
         &self.held
     }
 
-    /// The accepted operations that are kept, in order. A member who has been alone since the replica was made or stable operations were
-    /// dropped keeps none.
+    /// The accepted operations that are kept, in order. There are none if this member has been the only one of its group since the replica
+    /// was made, or since stable operations were last dropped.
     pub fn logged(&self) -> &Log
         ensures log { result.now ≡ self.now.log }
 

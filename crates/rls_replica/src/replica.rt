@@ -1,4 +1,5 @@
 //! What a replica consists of, and its start.
+//! Why: docs/DECISIONS.md, 45.
 
 ghost use Rattle.std.specs.Prelude.{◌≡◌, ◌<◌, ◌≤◌, ◌↔◌, ℕ, [], length, IfOk, IsErrOf};
 ghost use Rattle.rls_ident.specs.declared.limits.TheConstants.{MEMBERS};

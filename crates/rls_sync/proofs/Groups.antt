@@ -1,5 +1,6 @@
 -- Errors that carry the numbers of a group.
 use Rattle.std.proofs.Common.{◌≡◌, ℕ, Result, Ok, Err}
+use Rattle.rls_ops.specs.declared.message.Message.{Message}
 use Rattle.rls_model.specs.declared.receipt.Taken.{Taken}
 use Rattle.rls_replica.specs.declared.taking.TakeError.{TakeError}
 use Rattle.rls_sync.specs.declared.sync.TakeBytesError.{TakeBytesError}
@@ -22,3 +23,10 @@ refused e = Err e
 
 pub not_taken : (t : Taken) (e : TakeError) → taken t ≡ refused e → ⊥
 not_taken t e h = cc
+
+-- what was decoded is one message
+abbrev pub decoded : Message → Result Message ℕ
+decoded m = Ok m
+
+pub same_message : (m n : Message) → decoded m ≡ decoded n → m ≡ n
+same_message m n e = cc

@@ -4,10 +4,10 @@ use Rattle.std.specs.Prelude.{All, nat_le, nat_lt, not, if◌then◌else◌}
 use Rattle.std.proofs.lemmas.List.Elements.{All-cons, All-filter, All-head, All-nil, All-tail}
 use Rattle.rls_ident.specs.declared.limits.TheConstants.{MEMBERS, INPUT_BYTES, OPERATION_BYTES}
 use Rattle.rls_ident.specs.Lists.{IsIn}
-use Rattle.rls_ident.specs.Vectors.{join, raise}
+use Rattle.rls_ident.specs.Vectors.{raise}
 use Rattle.rls_ident.proofs.Members.{and_true, le_test, lt_test}
 use Rattle.rls_ops.specs.declared.op.Op.{Op}
-use Rattle.rls_ops.specs.Rows.{is_covered, missing_for, row_of}
+use Rattle.rls_ops.specs.Rows.{is_covered, missing_for}
 use Rattle.rls_ops.specs.Spelling.{counted, message_bytes, message_head, message_in_form, op_bytes}
 use Rattle.rls_ops.specs.Sizes.{front_within, head_size, op_size}
 use Rattle.rls_ops.proofs.Fronts.{front_from}
@@ -16,11 +16,11 @@ use Rattle.rls_codec.specs.CodecLaws.{IsMessage}
 use Rattle.rls_codec.specs.Spelled.{IsFit, IsFitAmong, IsSpelledIfFit}
 use Rattle.rls_codec.proofs.Fits.{message_fits}
 use Rattle.rls_codec.proofs.SizeLaws.{few_ops}
-use Rattle.rls_seen.proofs.Sending.{message_fits as within_input}
+use Rattle.rls_seen.proofs.Sending.{beyond_fits as within_input}
 use Rattle.rls_sync.specs.Heads.{start_of}
-use Rattle.rls_seen.specs.Messages.{message_over}
+use Rattle.rls_seen.specs.Messages.{message_beyond}
 use Rattle.rls_seen.specs.Sane.{Follow, IsSane}
-use Rattle.rls_seen.specs.Seen.{Seen, members, stable_over, vector}
+use Rattle.rls_seen.specs.Seen.{Seen, members, vector}
 
 pub front_all : (P : Op → Type 0) (used limit : ℕ) (os : List Op) → All P os → All P (front_within used limit os)
 front_all P used limit [] a = a
@@ -34,9 +34,9 @@ log_fits : (n : ℕ) (from : List ℕ) (os : List Op) (to : List ℕ) → Follow
 log_fits n from [] to f few = All-nil (IsFitAmong n)
 log_fits n from (o ∷ os) to f few = All-cons (IsFitAmong n) o os (f.0.body, few o (inl refl), (shaped n o f.1).context) (log_fits n (raise from o.author) os to f.4 (λ x p. few x (inr p)))
 
-pub message_fit : (s : Seen) (to : ℕ) → IsSane s → ((o : Op) → IsIn o s.log → op_size o ≤ OPERATION_BYTES) → IsFit (message_over s to)
-unfolding message_over
-message_fit s to h few =
+pub message_fit : (s : Seen) (known : List ℕ) → IsSane s → ((o : Op) → IsIn o s.log → op_size o ≤ OPERATION_BYTES) → IsFit (message_beyond s known)
+unfolding message_beyond
+message_fit s known h few =
     let n = members s in
     let member = h.rows.member in
     let log = h.log in
@@ -44,35 +44,34 @@ message_fit s to h few =
       members = and_true (nat_lt 0 n) (nat_le n MEMBERS) (lt_test 0 n (omega (arith, member))) (le_test n MEMBERS h.few);
       from = member;
       vector = refl;
-      ops = front_all (IsFitAmong n) (head_size n) INPUT_BYTES _ (All-filter (λ o. not (is_covered (join (row_of s.acks to) (stable_over s)) o)) (IsFitAmong n) s.log (log_fits n log.0 s.log (vector s) log.1.follow few));
+      ops = front_all (IsFitAmong n) (head_size n) INPUT_BYTES _ (All-filter (λ o. not (is_covered known o)) (IsFitAmong n) s.log (log_fits n log.0 s.log (vector s) log.1.follow few));
     }
 
 -- ---- the message as it is put
 
 -- the operations that are put are those of the message
-pub sent_ops : (s : Seen) (to : ℕ) (known : List ℕ) (end room : ℕ) → members s ≤ MEMBERS → known ≡ join (row_of s.acks to) (stable_over s) → room ≡ INPUT_BYTES - head_size (members s)
-    → missing_for known (take end s.log) ≡ front_within 0 room (missing_for known s.log) → missing_for known (take end s.log) ≡ (message_over s to).ops
-unfolding message_over
-sent_ops s to known end room few k r e =
-    e ∙ ap (λ n. front_within 0 n (missing_for known s.log)) r ∙ ap (λ v. front_within 0 (INPUT_BYTES - head_size (members s)) (missing_for v s.log)) k
-    ∙ sym (front_from (head_size (members s)) INPUT_BYTES (missing_for (join (row_of s.acks to) (stable_over s)) s.log) (omega arith))
+pub sent_ops : (s : Seen) (known : List ℕ) (end room : ℕ) → members s ≤ MEMBERS → room ≡ INPUT_BYTES - head_size (members s)
+    → missing_for known (take end s.log) ≡ front_within 0 room (missing_for known s.log) → missing_for known (take end s.log) ≡ (message_beyond s known).ops
+unfolding message_beyond
+sent_ops s known end room few r e =
+    e ∙ ap (λ n. front_within 0 n (missing_for known s.log)) r ∙ sym (front_from (head_size (members s)) INPUT_BYTES (missing_for known s.log) (omega arith))
 
-pub sent_log : (s : Seen) (to : ℕ) (known : List ℕ) (log : List Op) (end head : ℕ) → members s ≤ MEMBERS → known ≡ join (row_of s.acks to) (stable_over s) → head ≡ head_size (members s) → log ≡ s.log
-    → missing_for known (take end log) ≡ front_within 0 (INPUT_BYTES - head) (missing_for known log) → missing_for known (take end log) ≡ (message_over s to).ops
-sent_log s to known log end head few k h l e =
+pub sent_log : (s : Seen) (known : List ℕ) (log : List Op) (end head : ℕ) → members s ≤ MEMBERS → head ≡ head_size (members s) → log ≡ s.log
+    → missing_for known (take end log) ≡ front_within 0 (INPUT_BYTES - head) (missing_for known log) → missing_for known (take end log) ≡ (message_beyond s known).ops
+sent_log s known log end head few h l e =
     ap (λ (os : List Op). missing_for known (take end os)) l
-    ∙ sent_ops s to known end (INPUT_BYTES - head) few k (ap (λ n. INPUT_BYTES - n) h) (subst (λ (os : List Op). missing_for known (take end os) ≡ front_within 0 (INPUT_BYTES - head) (missing_for known os)) l e)
+    ∙ sent_ops s known end (INPUT_BYTES - head) few (ap (λ n. INPUT_BYTES - n) h) (subst (λ (os : List Op). missing_for known (take end os) ≡ front_within 0 (INPUT_BYTES - head) (missing_for known os)) l e)
 
-pub message_put : (s : Seen) (to : ℕ) (ops : List Op) → ops ≡ (message_over s to).ops → start_of s ++ counted op_bytes ops ≡ message_bytes (message_over s to)
-unfolding message_over message_head message_in_form
-message_put s to ops e = ap (λ os. start_of s ++ counted op_bytes os) e ∙ simp (append_assoc, append-nil)
+pub message_put : (s : Seen) (known : List ℕ) (ops : List Op) → ops ≡ (message_beyond s known).ops → start_of s ++ counted op_bytes ops ≡ message_bytes (message_beyond s known)
+unfolding message_beyond message_head message_in_form
+message_put s known ops e = ap (λ os. start_of s ++ counted op_bytes os) e ∙ simp (append_assoc, append-nil)
 
-pub few_sent : (s : Seen) (to : ℕ) → members s ≤ MEMBERS → length (message_over s to).ops < 2 ^ 32
-few_sent s to few = few_ops (message_over s to) (within_input s to few)
+pub few_sent : (s : Seen) (known : List ℕ) → members s ≤ MEMBERS → length (message_beyond s known).ops < 2 ^ 32
+few_sent s known few = few_ops (message_beyond s known) (within_input s known few)
 
 -- what is put is a message
-pub sent_message : (s : Seen) (to : ℕ) (bytes : List ℕ) → IsSane s → bytes ≡ message_bytes (message_over s to) → All IsSpelledIfFit s.log → ((o : Op) → IsIn o s.log → op_size o ≤ OPERATION_BYTES) → IsMessage bytes (message_over s to)
-unfolding message_over
-sent_message s to bytes h e spelled few =
-    message_fits bytes (message_over s to) e h.group h.small (few_sent s to h.few)
-    (front_all IsSpelledIfFit (head_size (members s)) INPUT_BYTES _ (All-filter (λ o. not (is_covered (join (row_of s.acks to) (stable_over s)) o)) IsSpelledIfFit s.log spelled)) (message_fit s to h few)
+pub sent_message : (s : Seen) (known bytes : List ℕ) → IsSane s → bytes ≡ message_bytes (message_beyond s known) → All IsSpelledIfFit s.log → ((o : Op) → IsIn o s.log → op_size o ≤ OPERATION_BYTES) → IsMessage bytes (message_beyond s known)
+unfolding message_beyond
+sent_message s known bytes h e spelled few =
+    message_fits bytes (message_beyond s known) e h.group h.small (few_sent s known h.few)
+    (front_all IsSpelledIfFit (head_size (members s)) INPUT_BYTES _ (All-filter (λ o. not (is_covered known o)) IsSpelledIfFit s.log spelled)) (message_fit s known h few)

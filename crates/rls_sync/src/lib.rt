@@ -3,4 +3,4 @@
 
 mod sync;
 
-pub use sync::{TakeBytesError, message_bytes, take_bytes};
+pub use sync::{TakeBytesError, message_bytes, message_bytes_told, take_bytes, take_bytes_watched};

@@ -11,21 +11,22 @@ ghost use Rattle.rls_ops.specs.Spelling.{counted, message_bytes, op_bytes};
 ghost use Rattle.rls_codec.specs.CodecLaws.{IsMessage};
 ghost use Rattle.rls_codec.specs.Reading.{message_of};
 ghost use Rattle.rls_model.specs.Receiving.{State};
-ghost use Rattle.rls_model.specs.Taking.{message_for, take_message};
+ghost use Rattle.rls_model.specs.Taking.{message_for, message_told, take_message};
 ghost use Rattle.rls_model.specs.Taking as model;
-ghost use Rattle.rls_seen.specs.Messages.{message_over, taken_over, taken_of, IsPartTaken};
+ghost use Rattle.rls_seen.specs.Messages.{message_beyond, message_over, message_told_over, taken_over, taken_of, IsPartTaken};
 ghost use Rattle.rls_seen.specs.Seen.{members};
 ghost use Rattle.rls_sync.specs.Heads.{start_of};
 ghost use Rattle.rls_seen.specs.Stands.{StandsFor};
 ghost use Rattle.rls_replica.specs.Faults.{IsForeign};
 ghost use Rattle.rls_replica.specs.Names.{KeepsNames};
+ghost use Rattle.rls_replica.specs.Watching.{taken_told, IsTold};
 
 use rls_codec::{DecodeError, decode_message, put_head, put_u32};
 use rls_ident::limits::INPUT_BYTES;
 use rls_ident::{Vector, rely};
 use rls_log::Log;
 use rls_ops::size::head_len;
-use rls_replica::{Replica, SendError, TakeError, Taken};
+use rls_replica::{Nobody, Replica, SendError, TakeError, Taken, Watcher};
 use std::alloc::{AllocError, Global};
 
 /// Why bytes aren't taken as a message, or not to its end.
@@ -58,27 +59,52 @@ pub fn message_bytes(alloc: Global, replica: &Replica, to: u32) -> Result<Vec<u8
     if to >= replica.members() {
         return Err(SendError::NotMember);
     }
-    match spelled(alloc, replica, to) {
-        Ok(bytes) => Ok(bytes),
-        Err(_) => Err(SendError::OutOfMemory),
-    }
+    let known = replica.known_to(to)?;
+    Ok(spelled(alloc, replica, &known)?)
 }
 
-// The message for a member. Its operations are copied byte by byte, and none is made.
-fn spelled(alloc: Global, replica: &Replica, to: u32) -> Result<Vec<u8>, AllocError>
-    requires member { to < members replica.now }
-    ensures bytes { IfOk result (λ bytes. bytes.items ≡ message_bytes (message_over replica.now to)) }
-    ensures message { IfOk result (λ bytes. ((o : Op) → IsIn o replica.now.log → op_size o ≤ OPERATION_BYTES) → IsMessage bytes.items (message_over replica.now to)) }
+/// The bytes of the message for a member that told these counts, one for each member, in the newest form.
+///
+/// # Errors
+///
+/// `NotMember` exactly where the number isn't below the count of members.
+pub fn message_bytes_told(
+    alloc: Global,
+    replica: &Replica,
+    to: u32,
+    told: &[u32],
+) -> Result<Vec<u8>, SendError>
+    requires counts { length told.now ≡ members replica.now }
+    ensures bytes { IfOk result (λ bytes. bytes.items ≡ message_bytes (message_told_over replica.now to told.now)) }
+    ensures not_member { IsErrOf result SendError.NotMember ↔ (members replica.now ≤ to) }
+
+    // They are a message, which others can read, where no kept operation has more bytes than one may have.
+    ensures message { IfOk result (λ bytes. ((o : Op) → IsIn o replica.now.log → op_size o ≤ OPERATION_BYTES) → IsMessage bytes.items (message_told_over replica.now to told.now)) }
+
+    // For every history and waiting operations that the replica stands for.
+    ensures stands { IfOk result (λ bytes. (t : State) → StandsFor replica.now t → bytes.items ≡ message_bytes (message_told t.history to told.now)) }
 {
     rely!(replica.sane());
-    let known = replica.known_to(to)?;
+    if to >= replica.members() {
+        return Err(SendError::NotMember);
+    }
+    let known = replica.known_to_told(to, told)?;
+    Ok(spelled(alloc, replica, &known)?)
+}
+
+// The message of what these counts don't cover. Its operations are copied byte by byte, and none is made.
+fn spelled(alloc: Global, replica: &Replica, known: &Vector) -> Result<Vec<u8>, AllocError>
+    ensures bytes { IfOk result (λ bytes. bytes.items ≡ message_bytes (message_beyond replica.now known.now)) }
+    ensures message { IfOk result (λ bytes. ((o : Op) → IsIn o replica.now.log → op_size o ≤ OPERATION_BYTES) → IsMessage bytes.items (message_beyond replica.now known.now)) }
+{
+    rely!(replica.sane());
     let log = replica.logged();
     rely!(log.fits());
     let room = INPUT_BYTES - head_len(replica.members());
-    let end = log.reach(&known, room);
-    let mut out = Vec::with_capacity(alloc, log.missing_len(&known).min(room) as usize)?;
+    let end = log.reach(known, room);
+    let mut out = Vec::with_capacity(alloc, log.missing_len(known).min(room) as usize)?;
     put_start(&mut out, replica)?;
-    put_ops(&mut out, log, &known, end)?;
+    put_ops(&mut out, log, known, end)?;
     Ok(out)
 }
 
@@ -134,8 +160,44 @@ pub fn take_bytes(
     ensures stands { IfOk result (λ taken. (t : State) → StandsFor replica.old t → (m : Message) × (message_of bytes.now ≡ Ok m)
         × (taken ≡ model.taken (take_message t m)) × StandsFor replica.new (take_message t m).state) }
 {
+    take_bytes_watched(alloc, replica, bytes, &mut Nobody)
+}
+
+/// Does the same, and shows each operation to a watcher before it is accepted. After `OutOfMemory` what was told is of the steps that were
+/// made.
+///
+/// # Errors
+///
+/// Those of `take_bytes`. After `Malformed` and `OtherGroup` nothing more was told.
+pub fn take_bytes_watched<W: Watcher>(
+    alloc: Global,
+    replica: &mut Replica,
+    bytes: &[u8],
+    watcher: &mut W,
+) -> Result<Taken, TakeBytesError>
+    ensures taken { IfOk result (λ taken. (m : Message) × (message_of bytes.now ≡ Ok m) × (IsForeign replica.old m → ⊥)
+        × (taken ≡ taken_of (taken_over replica.old m)) × (replica.new ≡ (taken_over replica.old m).state)) }
+    ensures told { OnOk result ((m : Message) → message_of bytes.now ≡ Ok m → W.told watcher.new ≡ W.told watcher.old ++ taken_told W.tells replica.old m) }
+    ensures malformed { (at : ℕ) → IsErrOf result (TakeBytesError.Malformed at) → (message_of bytes.now ≡ Err at) × (replica.new ≡ replica.old) }
+    ensures other_group { (g n : ℕ) → IsErrOf result (TakeBytesError.OtherGroup g n)
+        → (m : Message) × (message_of bytes.now ≡ Ok m) × IsForeign replica.old m × (g ≡ m.group) × (n ≡ m.members) × (replica.new ≡ replica.old) }
+    ensures untold { (at : ℕ) → IsErrOf result (TakeBytesError.Malformed at) → W.told watcher.new ≡ W.told watcher.old }
+    ensures untold_foreign { (g n : ℕ) → IsErrOf result (TakeBytesError.OtherGroup g n) → W.told watcher.new ≡ W.told watcher.old }
+    ensures cut { IsErrOf result TakeBytesError.OutOfMemory
+        → (replica.new ≡ replica.old) ⊎ ((m : Message) × (message_of bytes.now ≡ Ok m) × IsPartTaken replica.old m replica.new) }
+
+    // Each epoch that the replica kept it still keeps.
+    ensures names { KeepsNames replica.old replica.new }
+
+    // Also after an error.
+    ensures steps { IsTold W.tells replica.old replica.new (W.told watcher.old) (W.told watcher.new) }
+
+    // For every history and waiting operations that the replica stands for.
+    ensures stands { IfOk result (λ taken. (t : State) → StandsFor replica.old t → (m : Message) × (message_of bytes.now ≡ Ok m)
+        × (taken ≡ model.taken (take_message t m)) × StandsFor replica.new (take_message t m).state) }
+{
     match decode_message(alloc, bytes) {
-        Ok(message) => match replica.take(message) {
+        Ok(message) => match replica.take_watched(message, watcher) {
             Ok(taken) => Ok(taken),
             Err(TakeError::OtherGroup { group, members }) => {
                 Err(TakeBytesError::OtherGroup { group, members })

@@ -17,7 +17,7 @@ use Rattle.rls_model.proofs.OnePlace.{length-set, set_get}
 use Rattle.rls_seen.specs.Seen.{Seen, members, own_count}
 use Rattle.rls_seen.specs.Edits.{edited, made_over, edit_fault_over}
 use Rattle.rls_seen.specs.Kept.{dropped}
-use Rattle.rls_seen.specs.Messages.{message_over, taken_over, taken_of, IsPartTaken}
+use Rattle.rls_seen.specs.Messages.{message_beyond, message_over, taken_over, taken_of, IsPartTaken}
 use Rattle.rls_seen.specs.Over.{released_all, released_times}
 use Rattle.rls_world.specs.Events.{member_fault, message_fault, edit_fault_at, fault_over, with_replica, edited_at, sent_at, delivered_at, dropped_at, happened, edit_outcome, deliver_outcome, outcome_over, IsPartEdited, HasPart, PartTaken, IsStep, IsEdited, IsDelivered, IsPut}
 use Rattle.rls_world.specs.Seen.{WorldSeen, IsOfGroup, AreOfGroup, IsSent, IsOneGroup}
@@ -106,7 +106,7 @@ edit_cut s new i edit r u l e (inr p) n =
 -- ---- messages
 
 pub message_sent : (group n to : ℕ) (r : Seen) (m : Message) → IsOfGroup group n r → m ≡ message_over r to → r.acks.me < members r → All (λ k. k < 2 ^ 32) m.vector → AreOps m.ops → IsSent group n m
-unfolding message_over
+unfolding message_beyond
 message_sent group n to r m h e l v o =
     let vector : length m.vector ≡ n = ap (λ (x : Message). length x.vector) e ∙ h.members_are in
     let from : m.from ≡ r.acks.me = ap (λ (x : Message). x.from) e in

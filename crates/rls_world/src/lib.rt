@@ -1,4 +1,5 @@
 //! Worlds of members that edit and exchange messages, and the trial: a long valid course of events that a number decides.
+//! Why: CHOICES.md, 15, 71.
 #![tactic(auto)]
 
 mod draws;

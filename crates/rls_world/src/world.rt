@@ -1,4 +1,5 @@
 //! Worlds of members that edit and exchange messages.
+//! Why: CHOICES.md, 70.
 
 ghost use Rattle.std.specs.Prelude.{◌≡◌, ◌≢◌, ◌+◌, ◌<◌, ◌≤◌, ◌↔◌, ◌++◌, ◌∷◌, ℕ, List, [], length, nat_lt, slice_get, Some, None, Err, IfOk, IfErr, OnOk, OnErr, IsErrOf, if◌then◌else◌};
 ghost use Rattle.rls_ident.specs.declared.limits.TheConstants.{MEMBERS};

@@ -13,19 +13,19 @@ pub put_ops-requires-clause-few : goal.put_ops-requires-clause-few
 put_ops-requires-clause-few c =
     let s = c.args.replica.now in
     let few = c.sane.ensures.sane.few in
-    let sent = sent_log s c.args.to c.in_ok-known.known c.logged-log.result.now c.reach-end.result c.head_len-room.result few c.in_ok-known.ensures.known (c.head_len-room.ensures.size ∙ ap head_size c.members.ensures.members) c.logged-log.ensures.log c.reach-end.ensures.reach in
-    let less = few_sent s c.args.to few in
+    let sent = sent_log s c.args.known.now c.logged-log.result.now c.reach-end.result c.head_len-room.result few (c.head_len-room.ensures.size ∙ ap head_size c.members.ensures.members) c.logged-log.ensures.log c.reach-end.ensures.reach in
+    let less = few_sent s c.args.known.now few in
     omega (arith, less, ap (λ (os : List Op). length os) sent)
 
 pub returns-clause-bytes : goal.returns-clause-bytes
 returns-clause-bytes c =
     let s = c.args.replica.now in
     let few = c.sane.ensures.sane.few in
-    let ops = missing_for c.in_ok-known.known (take c.reach-end.result c.logged-log.result.now) in
-    let sent = sent_log s c.args.to c.in_ok-known.known c.logged-log.result.now c.reach-end.result c.head_len-room.result few c.in_ok-known.ensures.known (c.head_len-room.ensures.size ∙ ap head_size c.members.ensures.members) c.logged-log.ensures.log c.reach-end.ensures.reach in
+    let ops = missing_for c.args.known.now (take c.reach-end.result c.logged-log.result.now) in
+    let sent = sent_log s c.args.known.now c.logged-log.result.now c.reach-end.result c.head_len-room.result few (c.head_len-room.ensures.size ∙ ap head_size c.members.ensures.members) c.logged-log.ensures.log c.reach-end.ensures.reach in
     c.in_ok-put_ops.ensures.ok
     ∙ ap (λ (w : List ℕ). w ++ counted op_bytes ops) (c.in_ok-put_start.ensures.ok ∙ ap (λ (w : List ℕ). w ++ start_of s) c.in_ok-out.ensures.items)
-    ∙ message_put s c.args.to ops sent
+    ∙ message_put s c.args.known.now ops sent
 
 pub returns-clause-message : goal.returns-clause-message
-returns-clause-message c = λ few. let s = c.args.replica.now in sent_message s c.args.to c.put_ops.new.out.items c.sane.ensures.sane (returns-clause-bytes c) (subst (All IsSpelledIfFit) c.logged-log.ensures.log c.fits.ensures.spelled) few
+returns-clause-message c = λ few. let s = c.args.replica.now in sent_message s c.args.known.now c.put_ops.new.out.items c.sane.ensures.sane (returns-clause-bytes c) (subst (All IsSpelledIfFit) c.logged-log.ensures.log c.fits.ensures.spelled) few
