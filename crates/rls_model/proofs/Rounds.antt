@@ -33,7 +33,7 @@ use Rattle.rls_model.proofs.Quiet.{Later, get_last, happens_goes, run_later}
 
 -- ---- what a row tells is known
 
-row_known : (w : World) (i j : ℕ) (s t : State) → IsGood w → IsAt w i s → IsAt w j t → at_most (row s.history j) (count t.history) ≡ true
+pub row_known : (w : World) (i j : ℕ) (s t : State) → IsGood w → IsAt w i s → IsAt w j t → at_most (row s.history j) (count t.history) ≡ true
 row_known w i j s t g h k = bool_cases (j == me_of s.history) own other
   where
     r : IsMember w i s
@@ -60,7 +60,7 @@ row_known w i j s t g h k = bool_cases (j == me_of s.history) own other
         ∙ acks_below s.history j (count t.history) (length-count t.history ∙ (q.members ∙ sym r.members)) ack
 
 -- an operation that another member knows, and that a vector covers which tells no more than is known
-covered_known : (w : World) (i j : ℕ) (s t : State) (o : Op) (v : List ℕ) → IsGood w → IsAt w i s → IsAt w j t → IsIn o (ops s.history) → at_most v (count t.history) ≡ true → is_covered v o ≡ true → IsIn o (ops t.history)
+pub covered_known : (w : World) (i j : ℕ) (s t : State) (o : Op) (v : List ℕ) → IsGood w → IsAt w i s → IsAt w j t → IsIn o (ops s.history) → at_most v (count t.history) ≡ true → is_covered v o ≡ true → IsIn o (ops t.history)
 covered_known w i j s t o v g h k p l c =
     let r = g.member i s h in
     let q = g.member j t k in

@@ -22,7 +22,7 @@ use Rattle.rls_model.proofs.WorldsLaws.{good_after}
 
 -- ---- counts
 
-at_each : (v w : List ℕ) → length v ≡ length w → ((i : ℕ) → slice_index v i ≤ slice_index w i) → at_most v w ≡ true
+pub at_each : (v w : List ℕ) → length v ≡ length w → ((i : ℕ) → slice_index v i ≤ slice_index w i) → at_most v w ≡ true
 at_each [] w e f = refl
 at_each (m ∷ ms) [] e f = absurd (omega arith)
 at_each (m ∷ ms) (n ∷ ns) e f = and_true (nat_le m n) (at_most ms ns) (le_test m n (f 0)) (at_each ms ns (omega arith) (λ i. f (suc i)))

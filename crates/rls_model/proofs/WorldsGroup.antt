@@ -11,7 +11,7 @@ use Rattle.rls_model.specs.declared.event.StepError.{StepError}
 use Rattle.rls_model.specs.History.{History, Then, group_of, members_of}
 use Rattle.rls_model.specs.History as history
 use Rattle.rls_model.specs.Receiving.{State}
-use Rattle.rls_model.specs.Taking.{Limit, message_for, take_within}
+use Rattle.rls_model.specs.Taking.{Limit, message_for, message_told, take_within}
 use Rattle.rls_model.specs.EditRun.{edit_within}
 use Rattle.rls_model.specs.Worlds.{World, empty_world, fault_of, with_state, edit_at, send_at, deliver_at, step_of, unless, happens, Happening, run}
 use Rattle.rls_model.specs.Laws.{IsAt, IsFront, OneGroup}
@@ -40,13 +40,21 @@ set_belongs g n w i s t b h f = record {
   count = length-set w.states i t ∙ b.count;
 }
 
-pub sent_belongs : (g n : ℕ) (w : World) (s : State) (to i : ℕ) → Belongs g n w → IsAt w i s → Belongs g n (record w { sent = w.sent ++ message_for s.history to ∷ [] })
-unfolding message_for
-sent_belongs g n w s to i b h = record {
+-- a message of a member, whatever it takes to be known
+posted_belongs : (g n : ℕ) (w : World) (s : State) (m : Message) (i : ℕ) → Belongs g n w → IsAt w i s → m.group ≡ group_of s.history → m.members ≡ members_of s.history → Belongs g n (record w { sent = w.sent ++ m ∷ [] })
+posted_belongs g n w s m i b h group members = record {
   state = b.state;
-  message = λ m p. ⊎_elim (λ q. b.message m q) (λ q. let r = b.state i s h in (sym (ap (λ (x : Message). x.group) q) ∙ r.0, sym (ap (λ (x : Message). x.members) q) ∙ r.1)) (snoc_split m (message_for s.history to) w.sent p);
+  message = λ x p. ⊎_elim (λ q. b.message x q) (λ q. let r = b.state i s h in subst (λ (y : Message). (y.group ≡ g) × (y.members ≡ n)) q (group ∙ r.0, members ∙ r.1)) (snoc_split x m w.sent p);
   count = b.count;
 }
+
+pub sent_belongs : (g n : ℕ) (w : World) (s : State) (to i : ℕ) → Belongs g n w → IsAt w i s → Belongs g n (record w { sent = w.sent ++ message_for s.history to ∷ [] })
+unfolding message_for
+sent_belongs g n w s to i b h = posted_belongs g n w s (message_for s.history to) i b h refl refl
+
+pub told_belongs : (g n : ℕ) (w : World) (s : State) (to : ℕ) (told : List ℕ) (i : ℕ) → Belongs g n w → IsAt w i s → Belongs g n (record w { sent = w.sent ++ message_told s.history to told ∷ [] })
+unfolding message_told
+told_belongs g n w s to told i b h = posted_belongs g n w s (message_told s.history to told) i b h refl refl
 
 edit_belongs : (g n : ℕ) (limit : Limit) (w : World) (i : ℕ) (edit : Edit) (m : Option State) → slice_get w.states i ≡ m → Belongs g n w → Belongs g n (edit_at limit w i m edit)
 edit_belongs g n limit w i edit None e b = b

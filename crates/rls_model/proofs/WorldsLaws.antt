@@ -17,7 +17,9 @@ use Rattle.rls_model.specs.Stability.{unstable, is_covered, stable}
 use Rattle.rls_model.specs.Receiving.{State}
 use Rattle.rls_model.specs.Editing.{edit_fault}
 use Rattle.rls_model.specs.WellFormed.{IsLarge, IsEdit, IsEvent}
-use Rattle.rls_model.specs.Taking.{Limit, front_within, missing_for, message_for, take_within}
+use Rattle.rls_model.specs.Taking.{Limit, front_within, missing_for, message_for, message_told, told_row, take_within}
+use Rattle.rls_model.specs.Rules as rules
+use Rattle.rls_model.specs.View.{plain_of}
 use Rattle.rls_model.specs.EditRun.{edit_within}
 use Rattle.rls_model.specs.Worlds.{World, fresh_states, empty_world, member_fault, or_else, of_edit, edit_fault_at, fault_of, with_state, edit_at, send_at, deliver_at, step_of, unless, happens, Happening, run, AreEvents, AreWhole}
 use Rattle.rls_model.specs.Laws.{IsAt, IsAfter, HaveSameOps, ShowSame, WorldsLegal, EqualVectors, NoRefusal}
@@ -94,18 +96,26 @@ in_front used limit (u ∷ os) o p = go (nat_le (used + op_size u) limit) p (λ 
     go true (inr q) ih = inr (ih q)
     go false q ih = absurd q
 
-in_message : (H : History) (to : ℕ) (o : Op) → IsIn o (message_for H to).ops → IsIn o (ops H)
-unfolding message_for unstable
-in_message H to o p =
-    let q = in_front (head_size (members_of H)) INPUT_BYTES (missing_for (row H to) (unstable H)) o p in
-    let r = (in_filter (λ o. not (is_covered (row H to) o)) o (unstable H) q).0 in
-    (in_filter (λ o. not (is_covered (stable H) o)) o (ops H) r).0
+in_message : (limit : ℕ) (H : History) (r : List ℕ) (o : Op) → IsIn o (rules.message_within limit (plain_of H) r).ops → IsIn o (ops H)
+unfolding unstable
+in_message limit H r o p =
+    let q = in_front (head_size (members_of H)) limit (missing_for r (unstable H)) o p in
+    let k = (in_filter (λ o. not (is_covered r o)) o (unstable H) q).0 in
+    (in_filter (λ o. not (is_covered (stable H) o)) o (ops H) k).0
+
+-- whatever its sender takes to be known, and however long the message may be
+pub sends_by : (limit : ℕ) (w : World) (i : ℕ) (s : State) (r : List ℕ) → IsGood w → IsAt w i s → IsMessage w (rules.message_within limit (plain_of s.history) r)
+sends_by limit w i s r g h =
+    let k = g.member i s h in
+    record { ops = λ o p. k.home o (in_message limit s.history r o p); vector = (s, s.history, ap (slice_get w.states) k.me ∙ h, front_self s.history, refl) }
 
 pub sends : (w : World) (i : ℕ) (s : State) (to : ℕ) → IsGood w → IsAt w i s → IsMessage w (message_for s.history to)
 unfolding message_for
-sends w i s to g h =
-    let r = g.member i s h in
-    record { ops = λ o p. r.home o (in_message s.history to o p); vector = (s, s.history, ap (slice_get w.states) r.me ∙ h, front_self s.history, refl) }
+sends w i s to g h = sends_by INPUT_BYTES w i s (row s.history to) g h
+
+pub tells : (w : World) (i : ℕ) (s : State) (to : ℕ) (told : List ℕ) → IsGood w → IsAt w i s → IsMessage w (message_told s.history to told)
+unfolding message_told
+tells w i s to told g h = sends_by INPUT_BYTES w i s (told_row s.history to told) g h
 
 pub posts : (w : World) (m : Message) → IsGood w → IsMessage w m → IsGood (record w { sent = w.sent ++ m ∷ [] })
 posts w m g k = record {
@@ -123,7 +133,7 @@ pub record Keeps (limit : Limit) (w v : World) : Type 0 where
 stays : (limit : Limit) (w : World) → IsGood w → Keeps limit w w
 stays limit w g = record { good = g; rests = λ e r. r }
 
-state_rests : (w : World) (i : ℕ) (s t : State) → IsAt w i s → ((j : ℕ) (u : State) → IsAt w j u → IsAtRest u) → IsAtRest t → (j : ℕ) (u : State) → IsAt (with_state w i t) j u → IsAtRest u
+pub state_rests : (w : World) (i : ℕ) (s t : State) → IsAt w i s → ((j : ℕ) (u : State) → IsAt w j u → IsAtRest u) → IsAtRest t → (j : ℕ) (u : State) → IsAt (with_state w i t) j u → IsAtRest u
 state_rests w i s t h f r j u k = ⊎_elim (λ e. subst IsAtRest e.1 r) (λ q. f j u q) (at_split w i j s t u h k)
 
 edit_keeps : (limit : Limit) (w : World) (i : ℕ) (edit : Edit) (m : Option State) → slice_get w.states i ≡ m → IsGood w → IsEdit edit → edit_fault_at m edit ≡ None → Keeps limit w (edit_at limit w i m edit)

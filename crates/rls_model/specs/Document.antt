@@ -1,4 +1,5 @@
 -- The characters of a history and the text that they make.
+-- Why: docs/DECISIONS.md, 88.
 use Rattle.std.specs.Prelude.{ℕ, suc, pos, Bool, not, List, [], ◌∷◌, ◌++◌, map, filter}
 use Rattle.std.specs.List.{list_any}
 use Rattle.rls_ident.specs.declared.tuple.Tuple.{Tuple}

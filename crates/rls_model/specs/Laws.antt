@@ -39,7 +39,7 @@ use Rattle.rls_model.specs.WellFormed.{IsLarge, IsText, IsEdit, IsOp}
 use Rattle.rls_model.specs.Legal.{IsLegal, IsSound}
 use Rattle.rls_model.specs.Retained.{marked, retained}
 use Rattle.rls_model.specs.Editing.{next_seq, made, edit_fault}
-use Rattle.rls_model.specs.Taking.{Limit, has_room, Progress, started, take_ops, take_within, take_message}
+use Rattle.rls_model.specs.Taking.{Limit, has_room, Progress, started, take_ops, take_within, take_message, message_told}
 use Rattle.rls_model.specs.EditRun.{edit_within, Run, Done, Stopped, run_edits}
 use Rattle.rls_model.specs.Worlds.{World, empty_world, with_state, send_at, deliver_at, Happening, whole, happens, run, AreEvents, AreWhole}
 -- what a renaming means and keeps, what translation keeps, the smallest connected part, and windows
@@ -404,10 +404,12 @@ OneGroup = (w : World) (hs : List Happening) → IsAfter w hs → (group : ℕ) 
 
 -- ---- commands, each done whole or not at all
 
--- a member edits, and stays as it was where one of these edits is refused; it sends a message; or it takes a sent one, whoever it was for
+-- a member edits, and stays as it was where one of these edits is refused; it sends a message; it sends one to a member of which it is said that
+-- it told these counts, be they what it told or not; or it takes a sent one, whoever it was for
 pub data Command : Type 0 where
   Edits : (member : ℕ) → (edits : List Edit) → Command
   Sends : (from to : ℕ) → Command
+  Tells : (from to : ℕ) → (told : List ℕ) → Command
   Takes : (message to : ℕ) → Command
 
 -- the world after a run of the member's edits
@@ -419,10 +421,16 @@ abbrev pub edits_at : World → ℕ → Option State → List Edit → World
 edits_at w i None edits = w
 edits_at w i (Some s) edits = after_run w i (run_edits s edits)
 
+-- a message for a member that told these counts is sent by the member with this state
+abbrev pub tell_at : World → Option State → ℕ → List ℕ → World
+tell_at w None to told = w
+tell_at w (Some s) to told = record w { sent = w.sent ++ message_told s.history to told ∷ [] }
+
 -- the world after a command
 abbrev pub obeyed : World → Command → World
 obeyed w (Edits i edits) = edits_at w i (slice_get w.states i) edits
 obeyed w (Sends from to) = send_at None w (slice_get w.states from) to
+obeyed w (Tells from to told) = tell_at w (slice_get w.states from) to told
 obeyed w (Takes k to) = deliver_at None w to (slice_get w.states to) (slice_get w.sent k)
 
 -- and after such commands, one after another
@@ -446,6 +454,7 @@ refused_taken _ _ = []
 abbrev pub told_refused : World → Command → List (ℕ × ℕ × Reason)
 told_refused w (Edits i edits) = refused_edits (slice_get w.states i) edits
 told_refused w (Sends from to) = []
+told_refused w (Tells from to told) = []
 told_refused w (Takes k to) = refused_taken (slice_get w.states to) (slice_get w.sent k)
 
 -- a command's edits are well formed

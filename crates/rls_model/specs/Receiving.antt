@@ -1,4 +1,5 @@
 -- What a replica does with an operation that arrives.
+-- Why: docs/DECISIONS.md, 5.
 use Rattle.std.specs.Prelude.{ℕ, zero, suc, Bool, true, false, not, ◌&&◌, List, length, ◌==◌, nat_le, slice_index, find, Option, Some, None, if◌then◌else◌}
 use Rattle.rls_ident.specs.Vectors.{at_most}
 use Rattle.rls_ops.specs.declared.op.Op.{Op}

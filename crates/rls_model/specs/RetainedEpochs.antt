@@ -1,4 +1,5 @@
 -- The epochs that are retained.
+-- Why: docs/DECISIONS.md, 13.
 use Rattle.std.specs.Prelude.{not, List, ◌∷◌, ◌++◌, map, filter}
 use Rattle.std.specs.Ordering.{is_lt}
 use Rattle.rls_ident.specs.declared.epoch_name.EpochName.{EpochName}

@@ -1,4 +1,5 @@
 -- One round of messages: once nobody edits, members who have told one another what they know have all operations.
+-- Why: docs/DECISIONS.md, 245.
 use Rattle.std.specs.Prelude.{◌≡◌, ◌⊎◌, ◌↔◌, ℕ, List, [], ◌∷◌, ◌++◌, length, None, IsFalse}
 use Rattle.rls_ident.specs.Lists.{IsIn}
 use Rattle.rls_ops.specs.declared.op.Op.{Op}

@@ -1,5 +1,6 @@
 -- The rules, over a view.
-use Rattle.std.specs.Prelude.{ℕ, zero, suc, ◌+◌, Bool, not, List, [], ◌∷◌, ◌++◌, length, take, drop, ◌==◌, slice_get, slice_index, Option, Some, None, if◌then◌else◌}
+-- Why: docs/DECISIONS.md, 110.
+use Rattle.std.specs.Prelude.{ℕ, zero, suc, ◌+◌, Bool, not, List, [], ◌∷◌, ◌++◌, length, take, drop, ◌==◌, slice_get, slice_index, slice_set, Option, Some, None, if◌then◌else◌}
 use Rattle.rls_ident.specs.declared.limits.TheConstants.{GREATEST_NUMBER, INPUT_BYTES}
 use Rattle.rls_ident.specs.declared.tuple.Tuple.{Tuple}
 use Rattle.rls_ident.specs.declared.epoch_name.EpochName.{EpochName}
@@ -89,15 +90,24 @@ release_of reason (Some w) = Some (record { author = w.author; seq = w.seq; refu
 
 -- ---- sending, and numbers
 
--- the unstable operations that this row doesn't cover, as many as a message holds
-abbrev pub message_for : Plain → List ℕ → Message
-message_for v r = record {
+-- the unstable operations that this row doesn't cover, as many as a message of at most this many bytes holds
+abbrev pub message_within : ℕ → Plain → List ℕ → Message
+message_within limit v r = record {
   group = v.group;
   members = v.members;
   from = v.me;
   vector = v.vector;
-  ops = front_within (head_size v.members) INPUT_BYTES (missing_for r v.unstable);
+  ops = front_within (head_size v.members) limit (missing_for r v.unstable);
 }
+
+-- as many as a message holds
+abbrev pub message_for : Plain → List ℕ → Message
+message_for v r = message_within INPUT_BYTES v r
+
+-- What a member has by these counts, which it told: what they say of the others, and all of its own operations that are counted here. What they
+-- say of its own ones may be old, and a claim beyond what is counted here changes no message, since no operation above it is kept.
+abbrev pub told_of : List ℕ → ℕ → List ℕ → List ℕ
+told_of vector to told = slice_set told to (slice_index vector to)
 
 -- characters, runs, waiting operations, unstable operations, retained epochs and the former identifiers below the topmost of them
 abbrev pub counts : Plain → List Op → Counts

@@ -1,4 +1,5 @@
 -- What every member that hasn't left has accepted.
+-- Why: docs/DECISIONS.md, 20.
 use Rattle.std.specs.Prelude.{ℕ, zero, suc, Bool, not, ◌||◌, List, [], ◌∷◌, ◌++◌, ◌==◌, filter, if◌then◌else◌}
 use Rattle.rls_ops.specs.declared.op.Op.{Op}
 use Rattle.rls_ops.specs.Rows.{is_news}

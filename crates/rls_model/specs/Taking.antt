@@ -6,7 +6,8 @@ pub use Rattle.rls_ops.specs.Sizes.{front_within}
 pub use Rattle.rls_ops.specs.Rows.{missing_for}
 use Rattle.rls_model.specs.declared.receipt.Taken.{Taken}
 use Rattle.rls_model.specs.Answers.{Released}
-use Rattle.rls_model.specs.History.{Acknowledged, History, Then, row}
+use Rattle.rls_ident.specs.Vectors.{join}
+use Rattle.rls_model.specs.History.{Acknowledged, History, Then, count, row}
 use Rattle.rls_model.specs.Stability.{is_counted}
 use Rattle.rls_model.specs.Receiving.{State, accept, receive, receive_after, release, release_after}
 use Rattle.rls_model.specs.View.{plain_of}
@@ -20,6 +21,15 @@ use Rattle.rls_model.specs.Machine.{Machine, Stage, with_release_on, receive_on,
 -- the unstable operations that the member's row doesn't cover, as many as a message holds
 unfoldable pub message_for : History → ℕ → Message
 message_for H to = rules.message_for (plain_of H) (row H to)
+
+-- what the member has by its row and by these counts, which it told, or made itself
+abbrev pub told_row : History → ℕ → List ℕ → List ℕ
+told_row H to told = join (row H to) (rules.told_of (count H) to told)
+
+-- the message for a member that told these counts, of which no one need be noted: the unstable operations of others that neither its row nor
+-- these counts cover, as many as a message holds
+unfoldable pub message_told : History → ℕ → List ℕ → Message
+message_told H to told = rules.message_for (plain_of H) (told_row H to told)
 
 -- ---- a replica by its history
 

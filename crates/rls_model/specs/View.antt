@@ -1,4 +1,5 @@
 -- What rules look at, whatever it is read from.
+-- Why: docs/DECISIONS.md, 110.
 use Rattle.std.specs.Prelude.{ℕ, Bool, List, length, sum_by}
 use Rattle.rls_ident.specs.declared.tuple.Tuple.{Tuple}
 use Rattle.rls_ident.specs.declared.epoch_name.EpochName.{EpochName}

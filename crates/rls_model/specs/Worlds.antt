@@ -1,4 +1,5 @@
 -- Worlds: the states of all members, and every message that was ever sent.
+-- Why: docs/DECISIONS.md, 12.
 use Rattle.std.specs.Prelude.{◌≡◌, ℕ, zero, suc, List, [], ◌∷◌, ◌++◌, length, nat_lt, slice_get, slice_set, Option, Some, None, if◌then◌else◌}
 use Rattle.rls_ops.specs.declared.message.Message.{Message}
 use Rattle.rls_model.specs.declared.edit.Edit.{Edit}

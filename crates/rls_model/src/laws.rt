@@ -4,6 +4,7 @@ ghost use Rattle.rls_model.specs.Laws.{Meaning, OrderKept, Inverse, LastKept, Pa
 ghost use Rattle.rls_model.specs.Laws.{OneOrder, OrderAgreed, PastKept, EditAlone, MadeByEdits, Gathered, StrongList, ArrivalApplied, SentArrives, EditsAreEvents, OneGroup, CommandsClean};
 ghost use Rattle.rls_model.specs.Laws.{OneTree, NoneUsed, AllUsed, OwnStems, Distinct, TextsAreCharacters, Stable, MadeFits, RenamedRun, InsertionLands};
 ghost use Rattle.rls_model.specs.Laws.{KeptOn, ToldByWindow, Dropped, SameOperations, CutShort, EditApplied, WorldsLegal, EqualVectors, NoRefusal, EditsClean};
+ghost use Rattle.rls_model.specs.Exchanges.{TurnsBring};
 ghost use Rattle.rls_model.specs.Rounds.{AllTold, OneRound, OneHub};
 
 /// A renaming takes a former identifier to the new one at its place, and what the old map of a gap gives to what its new map gives
@@ -152,6 +153,13 @@ pub fn one_round()
     ensures all_told { AllTold }
     ensures one_round { OneRound }
     ensures one_hub { OneHub }
+{}
+
+/// Two members who send each other messages in turn, each by the counts that the other told last, get on, however little a message holds, as long as
+/// it holds each single operation: whatever happened before, and however often they exchanged since, the next message brings its receiver an
+/// operation that it lacked, or it lacks none that the sender has. So after as many messages as operations are missing, none is.
+pub fn turns_bring()
+    ensures turns_bring { TurnsBring }
 {}
 
 /// In a world each member's history is legal, and its waiting operations fit to it.

@@ -1,4 +1,5 @@
 //! What histories, replicas and worlds mean, and the laws that hold of them.
+//! Why: CHOICES.md, 1, 2, 3, 4, 6, 7, 8, 11, 16, 21, 58.
 #![tactic(auto)]
 
 mod counts;

@@ -3,20 +3,22 @@ use Rattle.std.proofs.Common.{◌≡◌, ℕ, zero, suc, ◌<◌, ◌≤◌, ◌
 use Rattle.std.proofs.lemmas.Bool.Decides.{nat_tests}
 use Rattle.rls_ident.specs.declared.limits.TheConstants.{MEMBERS, INPUT_BYTES}
 use Rattle.rls_ident.specs.Vectors.{join, meet}
-use Rattle.rls_ident.proofs.Vectors.{length-meet, index-join}
+use Rattle.rls_ident.proofs.Vectors.{length-meet, length-join, index-join}
 use Rattle.rls_ops.specs.declared.op.Op.{Op}
 use Rattle.rls_ops.specs.declared.message.Message.{Message}
 use Rattle.rls_ops.specs.Rows.{AcksSeen, AreRows, HaveLength, row_of, awaits, awaited, least_of, stable_of, is_covered, missing_for}
 use Rattle.rls_ops.specs.Sizes.{head_size, message_size}
-use Rattle.rls_model.specs.History.{members_of}
+use Rattle.rls_model.specs.History.{members_of, row}
 use Rattle.rls_model.specs.Receiving.{State}
+use Rattle.rls_model.specs.Rules.{told_of}
 use Rattle.rls_model.specs.Rules as rules
 use Rattle.rls_model.specs.View.{Plain, plain_of}
-use Rattle.rls_model.specs.Taking.{front_within, message_for}
-use Rattle.rls_seen.specs.Seen.{Seen, members, stable_over}
-use Rattle.rls_seen.specs.Messages.{message_over}
+use Rattle.rls_model.specs.Taking.{front_within, message_for, message_told}
+use Rattle.rls_seen.specs.Seen.{Seen, members, stable_over, vector}
+use Rattle.rls_seen.specs.Messages.{known_over, message_beyond, message_over, message_told_over}
 use Rattle.rls_seen.specs.Stands.{StandsFor}
 use Rattle.rls_seen.specs.View.{plain}
+use Rattle.rls_model.proofs.OnePlace.{length-set}
 use Rattle.rls_seen.proofs.Alike.{members_alike}
 use Rattle.rls_seen.proofs.Editing.{plain_alike}
 use Rattle.rls_ops.proofs.KeptRows.{lengths_append, length-row}
@@ -69,18 +71,39 @@ missing_joined v w (o ∷ os) e =
 message_with : Plain → List Op → Message
 message_with v os = record { group = v.group; members = v.members; from = v.me; vector = v.vector; ops = front_within (head_size v.members) INPUT_BYTES os }
 
+-- of what a row doesn't cover, the same message
+beyond_alike : (s : Seen) (t : State) (r : List ℕ) → length r ≡ length (stable_over s) → StandsFor s t → message_beyond s (join r (stable_over s)) ≡ rules.message_for (plain_of t.history) r
+unfolding message_beyond message_with
+beyond_alike s t r e h = ap (message_with (plain s)) (missing_joined r (stable_over s) s.log e) ∙ ap (λ v. rules.message_for v r) (plain_alike s t h)
+
+row_length : (s : Seen) (t : State) (to : ℕ) → to < members s → StandsFor s t → length (row_of s.acks to) ≡ length (stable_over s)
+row_length s t to l h = length-row s.acks to h.places l ∙ sym (length-stable s.acks h.places)
+
 -- the same message
 pub message_alike : (s : Seen) (t : State) (to : ℕ) → to < members s → StandsFor s t → message_over s to ≡ message_for t.history to
-unfolding message_over message_for message_with
+unfolding message_for
 message_alike s t to l h =
     let n = members_alike s t h in
-    let e : length (row_of s.acks to) ≡ length (stable_over s) = length-row s.acks to h.places l ∙ sym (length-stable s.acks h.places) in
     let k : to < members_of t.history = omega arith in
-    ap (message_with (plain s)) (missing_joined (row_of s.acks to) (stable_over s) s.log e)
-    ∙ (ap (λ v. rules.message_for v (row_of s.acks to)) (plain_alike s t h) ∙ ap (rules.message_for (plain_of t.history)) (h.rows to k))
+    beyond_alike s t (row_of s.acks to) (row_length s t to l h) h ∙ ap (rules.message_for (plain_of t.history)) (h.rows to k)
+
+-- by counts that the member told
+pub told_alike : (s : Seen) (t : State) (to : ℕ) (told : List ℕ) → to < members s → length told ≡ members s → StandsFor s t → message_told_over s to told ≡ message_told t.history to told
+unfolding message_told
+told_alike s t to told l e h =
+    let n = members_alike s t h in
+    let k : to < members_of t.history = omega arith in
+    let its = told_of (vector s) to told in
+    let same : length (row_of s.acks to) ≡ length its = length-row s.acks to h.places l ∙ sym (length-set told to (slice_index (vector s) to) ∙ e) in
+    let whole : length (join (row_of s.acks to) its) ≡ length (stable_over s) = length-join (row_of s.acks to) its same ∙ (length-set told to (slice_index (vector s) to) ∙ (e ∙ sym (length-stable s.acks h.places))) in
+    beyond_alike s t (join (row_of s.acks to) its) whole h
+    ∙ ap (rules.message_for (plain_of t.history)) (ap (λ v. join v its) (h.rows to k) ∙ ap (λ v. join (row t.history to) (told_of v to told)) h.vector)
 
 -- ---- its size
 
+pub beyond_fits : (s : Seen) (known : List ℕ) → members s ≤ MEMBERS → message_size (message_beyond s known) ≤ INPUT_BYTES
+unfolding message_beyond
+beyond_fits s known h = front_fits (head_size (members s)) INPUT_BYTES _ (omega (arith, h))
+
 pub message_fits : (s : Seen) (to : ℕ) → members s ≤ MEMBERS → message_size (message_over s to) ≤ INPUT_BYTES
-unfolding message_over
-message_fits s to h = front_fits (head_size (members s)) INPUT_BYTES _ (omega (arith, h))
+message_fits s to h = beyond_fits s (known_over s to) h

@@ -9,6 +9,7 @@ use Rattle.rls_ops.specs.Sizes.{head_size}
 use Rattle.rls_model.specs.declared.edit.Edit.{Edit}
 use Rattle.rls_model.specs.declared.receipt.Taken.{Taken}
 use Rattle.rls_model.specs.Answers.{Released}
+use Rattle.rls_model.specs.Rules.{told_of}
 use Rattle.rls_model.specs.Taking.{front_within}
 pub use Rattle.rls_model.specs.Machine.{Limit, has_room, one_less, started, moved, with_answer, with_refusal}
 use Rattle.rls_model.specs.Machine.{Machine, Stage, with_release_on, receive_on, release_on, releases_on, release_all_on, acknowledge_on, edit_on, take_on}
@@ -19,15 +20,31 @@ use Rattle.rls_seen.specs.Edits.{edit_fault_over, edited}
 
 -- ---- the message for a member
 
--- the unstable operations that the member's row doesn't cover, as many as a message holds
-unfoldable pub message_over : Seen → ℕ → Message
-message_over s to = record {
+-- the kept operations that these counts don't cover, as many as a message holds
+unfoldable pub message_beyond : Seen → List ℕ → Message
+message_beyond s known = record {
   group = s.group;
   members = members s;
   from = s.acks.me;
   vector = vector s;
-  ops = front_within (head_size (members s)) INPUT_BYTES (missing_for (join (row_of s.acks to) (stable_over s)) s.log);
+  ops = front_within (head_size (members s)) INPUT_BYTES (missing_for known s.log);
 }
+
+-- what is stable, and what the member's row covers
+abbrev pub known_over : Seen → ℕ → List ℕ
+known_over s to = join (row_of s.acks to) (stable_over s)
+
+-- the unstable operations that the member's row doesn't cover, as many as a message holds
+abbrev pub message_over : Seen → ℕ → Message
+message_over s to = message_beyond s (known_over s to)
+
+-- what is stable, and what the member has by its row and by these counts, which it told, or made itself
+abbrev pub told_over : Seen → ℕ → List ℕ → List ℕ
+told_over s to told = join (join (row_of s.acks to) (told_of (vector s) to told)) (stable_over s)
+
+-- the message for a member that told these counts
+abbrev pub message_told_over : Seen → ℕ → List ℕ → Message
+message_told_over s to told = message_beyond s (told_over s to told)
 
 -- ---- a replica by what it consists of
 

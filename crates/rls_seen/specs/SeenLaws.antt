@@ -22,12 +22,12 @@ use Rattle.rls_model.specs.EditRun.{run_edits}
 use Rattle.rls_model.specs.Laws.{AreEdits}
 use Rattle.rls_model.specs.Machine.{started, run_on, read_edit_on}
 use Rattle.rls_model.specs.MachineLaws.{StepsAgree, EditsAgree, IsSameRun}
-use Rattle.rls_model.specs.Taking.{by_history, Limit, acknowledge, take_within, taken, message_for}
+use Rattle.rls_model.specs.Taking.{by_history, Limit, acknowledge, take_within, taken, message_for, message_told}
 use Rattle.rls_model.specs.WellFormed.{IsOp, IsEdit, IsVector}
 use Rattle.rls_seen.specs.Seen.{Seen, vector, members, fresh, text_over, idents_over, greatest_over, unstable_over}
 use Rattle.rls_seen.specs.Over.{answer_over, received, replayed, release_over, released, released_all, acknowledged}
 use Rattle.rls_seen.specs.Edits.{made_over, edit_fault_over, edited}
-use Rattle.rls_seen.specs.Messages.{by_parts, message_over, taken_within, taken_of, IsMessage}
+use Rattle.rls_seen.specs.Messages.{by_parts, message_over, message_told_over, taken_within, taken_of, IsMessage}
 use Rattle.rls_seen.specs.Kept.{needed_over, dropped, retained_over, counts_over, kept_operations, kept_epochs, kept_former, parts_over}
 use Rattle.rls_seen.specs.Sane.{IsSane, IsInRange, MayApply, IsNewborn}
 use Rattle.rls_seen.specs.Stands.{StandsFor}
@@ -82,6 +82,10 @@ EditsRunAlike = (s : Seen) (t : State) (edits : List Edit) → AreEdits edits �
 -- the message for a member
 abbrev pub MessageAlike : Type 0
 MessageAlike = (s : Seen) (t : State) (to : ℕ) → to < members s → StandsFor s t → message_over s to ≡ message_for t.history to
+
+-- and for one that told these counts
+abbrev pub ToldAlike : Type 0
+ToldAlike = (s : Seen) (t : State) (to : ℕ) (told : List ℕ) → to < members s → length told ≡ members s → StandsFor s t → message_told_over s to told ≡ message_told t.history to told
 
 -- what is shown: text, identifiers, greatest epoch and vector
 abbrev pub ShownAlike : Type 0

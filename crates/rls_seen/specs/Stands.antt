@@ -1,4 +1,5 @@
 -- Which histories and waiting operations a replica stands for.
+-- Why: docs/DECISIONS.md, 45.
 use Rattle.std.specs.Prelude.{◌≡◌, ℕ, ◌<◌, List, IsTrue}
 use Rattle.rls_ident.specs.Vectors.{at_most}
 use Rattle.rls_ops.specs.declared.op.Op.{Op}

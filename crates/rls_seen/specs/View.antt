@@ -1,4 +1,5 @@
 -- What rules look at, of a replica.
+-- Why: docs/DECISIONS.md, 110.
 use Rattle.std.specs.Prelude.{length, sum_by}
 use Rattle.rls_rename.specs.Connected.{spanned_renamings}
 use Rattle.rls_ops.specs.Rows.{row_of, left}

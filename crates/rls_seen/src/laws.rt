@@ -1,7 +1,7 @@
 //! Laws: facts over the definitions, for all values. Each call runs nothing and takes no memory; its contract states the fact.
 
 ghost use Rattle.rls_seen.specs.SeenLaws.{FreshStands, ReceivedStands, ReplayedStands, ReleasedStands, ReleasedAllStands};
-ghost use Rattle.rls_seen.specs.SeenLaws.{AcknowledgedStands, EditedStands, TakenStands, MachinesAgree, EditsRunAlike, MessageAlike, ShownAlike, NumbersAlike, DroppedStands};
+ghost use Rattle.rls_seen.specs.SeenLaws.{AcknowledgedStands, EditedStands, TakenStands, MachinesAgree, EditsRunAlike, MessageAlike, ToldAlike, ShownAlike, NumbersAlike, DroppedStands};
 ghost use Rattle.rls_seen.specs.SeenLaws.{FreshSane, ReceivedSane, ReleasedSane, AcknowledgedSane, EditedSane, DroppedSane, InsertsNew, EpochsKept};
 
 /// A fresh replica stands for the history in which nothing has happened, and is sane.
@@ -54,9 +54,11 @@ pub fn machines()
     ensures edits { EditsRunAlike }
 {}
 
-/// The message for a member is that of each history that the replica stands for, whatever was dropped.
+/// The message for a member is that of each history that the replica stands for, whatever was dropped; so is the one for a member that told these
+/// counts.
 pub fn message()
     ensures alike { MessageAlike }
+    ensures told { ToldAlike }
 {}
 
 /// The text, its identifiers, the greatest epoch and the vector are those of each history that the replica stands for.
