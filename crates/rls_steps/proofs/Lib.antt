@@ -49,3 +49,4 @@ pub mod Inserted
 pub mod EditsTold
 pub mod Agreeing
 pub mod Performing
+pub mod Turning

@@ -98,12 +98,6 @@ pub back_may : (s : Seen) (e : EpochName) (next : ℕ) (names : Names) (past fut
     MayRun (steps_over s (record { epoch = e; next = next; names = names; past = past; future = future; group = group; overfull = overfull; after_sweep = after })) (replicate k Back)
 back_may s e next names past future group overfull after k q f = subst (λ (st : Steps). MayRun st (replicate k Back)) (sym (steps_there s e next names past future group overfull after q)) f
 
-pub shown : (st now : Steps) (k : ℕ) → MayRun st (replicate k Back) → now ≡ course st (replicate k Back) → (c : Copies) → Shows st c → Shows now (copies c (replicate k Back))
-shown st now k f e c x = subst (λ (z : Steps). Shows z (copies c (replicate k Back))) (sym e) (as_copied st c (replicate k Back) x f)
-
-pub shown_again : (st now : Steps) (k : ℕ) → MayRun st (replicate k Again) → now ≡ course st (replicate k Again) → (c : Copies) → Shows st c → Shows now (copies c (replicate k Again))
-shown_again st now k f e c x = subst (λ (z : Steps). Shows z (copies c (replicate k Again))) (sym e) (as_copied st c (replicate k Again) x f)
-
 -- ---- a stop within a group
 
 held_there : (s : Seen) (e : EpochName) (next : ℕ) (names : Names) → e ≡ greatest_over s → held_by s next names ≡ held_by s next (names_over s e names)

@@ -1,4 +1,5 @@
 -- The oldest steps, which are forgotten.
+-- Why: docs/DECISIONS.md, 243.
 use Rattle.std.specs.Prelude.{ℕ, zero, suc, ◌+◌, ◌-◌, ◌≤◌, ◌||◌, List, [], ◌∷◌, length, take, drop, reverse, nat_le, if◌then◌else◌}
 use Rattle.rls_seen.specs.Seen.{Seen}
 use Rattle.rls_steps.specs.declared.piece.Step.{Step}

@@ -1,4 +1,5 @@
 -- What is recorded, exactly, over any kind of state: what a replica consists of, or a history and what waits beside it.
+-- Why: docs/DECISIONS.md, 126.
 use Rattle.std.specs.Prelude.{ℕ, zero, suc, ◌+◌, ◌-◌, false, List, [], ◌∷◌, ◌++◌, map, zip, length, take, drop, reverse, slice_get, Option, Some, None, if◌then◌else◌}
 use Rattle.rls_ident.specs.declared.tuple.Tuple.{Tuple}
 use Rattle.rls_ident.specs.declared.epoch_name.EpochName.{EpochName}

@@ -21,3 +21,4 @@ pub mod Sweeping
 pub mod Grounds
 pub mod GroundLaws
 pub mod StepChanges
+pub mod Turning

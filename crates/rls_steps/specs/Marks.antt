@@ -1,4 +1,5 @@
 -- A text whose characters are told by labels, and the pieces of which steps consist.
+-- Why: docs/DECISIONS.md, 77.
 use Rattle.std.specs.Prelude.{ℕ, zero, suc, ◌+◌, ◌==◌, Bool, false, List, [], ◌∷◌, ◌++◌, map, zip, take, drop, Option, Some, None, if◌then◌else◌}
 use Rattle.std.specs.List.{list_any}
 use Rattle.rls_ident.specs.declared.tuple.Tuple.{Tuple}

@@ -1,4 +1,5 @@
 //! Undo by steps: what a member did is taken back all the way, and done again.
+//! Why: CHOICES.md, 117, 118, 125, 149, 162, 170, 171, 172, 173, 184, 187, 188.
 #![tactic(auto)]
 
 mod bound;
@@ -26,4 +27,4 @@ mod sweeping;
 mod undoing;
 
 pub use piece::{Labels, Piece, Step};
-pub use steps::{StepError, Steps};
+pub use steps::{StepError, Steps, Turn};

@@ -1,4 +1,5 @@
 //! Names of characters: identifiers with their labels, which are looked up by either.
+//! Why: docs/DECISIONS.md, 77.
 
 ghost use Rattle.std.specs.Prelude.{◌≡◌, ◌<◌, ◌≤◌, ◌+◌, ◌-◌, ◌++◌, ◌∷◌, [], ℕ, List, length, take, reverse, slice_get, slice_index, Some, None, IfOk, IfSome, OnOk, OnErr, IsTrue, IsFalse, pos, ◌^◌};
 ghost use Rattle.rls_ident.specs.declared.tuple.Tuple.{Tuple};

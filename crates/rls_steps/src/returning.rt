@@ -1,4 +1,5 @@
 //! Pieces that are taken back.
+//! Why: docs/DECISIONS.md, 78.
 
 ghost use Rattle.std.specs.Prelude.{◌≡◌, ◌+◌, ◌-◌, ◌++◌, ◌∷◌, [], ℕ, List, length, map, take, replicate, slice_get, Some, None, IfOk, IfErr, OnOk, OnErr, IfSome, IfNone};
 ghost use Rattle.rls_seen.specs.Edits.{IsFault};

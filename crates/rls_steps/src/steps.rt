@@ -1,4 +1,5 @@
 //! What a member did to its text, step by step, and what it took back.
+//! Why: docs/DECISIONS.md, 127, 243; CHOICES.md, 124, 183, 218.
 
 ghost use Rattle.std.specs.Prelude.{◌≡◌, ◌+◌, ◌++◌, ◌∷◌, [], ℕ, List, length, take, drop, reverse, false, ◌||◌, ◌-◌, map, replicate, Some, None, IfOk, IfErr, OnOk, OnErr, IsErrOf, ◌↔◌, IsFalse, ◌≤◌, ◌⊎◌};
 ghost use Rattle.rls_ident.specs.declared.epoch_name.EpochName.{EpochName};
@@ -15,6 +16,7 @@ ghost use Rattle.rls_steps.specs.Grounds.{over, begun_on, recorded_on, back_edit
 ghost use Rattle.rls_steps.specs.StepChanges.{back_changes, AreTold};
 ghost use Rattle.rls_steps.specs.Recorded.{unused, settled, steps_over, IsRecorded};
 ghost use Rattle.rls_steps.specs.Sweeping.{swept, kept_within, with_newest};
+ghost use Rattle.rls_steps.specs.Turning.{IsTurnStopped, facing, moves_of, turn_size, turned_changes, turned_edits, turned_on};
 
 mod recording;
 
@@ -30,6 +32,7 @@ use rls_ops::Op;
 use rls_replica::{Edit, EditError, PastError, Replica};
 use std::alloc::Global;
 use std::marker::Model;
+use std::mem;
 
 /// Why nothing is done, or not to its end.
 #[derive(Clone, Copy, Debug, PartialEq, Eq)]
@@ -41,6 +44,15 @@ pub enum StepError {
     /// The edit that comes next is refused.
     Edit(EditError),
     OutOfMemory,
+}
+
+/// Which group of steps goes.
+#[derive(Clone, Copy)]
+pub enum Turn {
+    /// The last one is taken back: an undo.
+    Back,
+    /// The one that was taken back last is done again: a redo.
+    Again,
 }
 
 /// What a member did to its text and can take back all the way, in groups; and what it took back and can do again. It stands beside a
@@ -351,8 +363,8 @@ impl Steps {
         }
     }
 
-    /// Takes the last group back, the last step first, and answers how many steps that were. It ends the open group. What it changes in
-    /// the text stands after the other changes: an insertion for each piece that comes back, and a deletion for each range that goes.
+    /// Takes the last group back, the last step first, or does the group again that was taken back last; and answers how many steps that
+    /// were. It ends the open group. What it changes in the text stands after the other changes: an insertion for each piece that comes back, and a deletion for each range that goes.
     ///
     /// Each step costs its edits, as by `edit`. A step that put characters in costs a few searches for each run of these that was put in,
     /// or came back, at once and stands in the text as a whole, and a few instructions for each of them; and one that cut some out a few
@@ -362,20 +374,61 @@ impl Steps {
     ///
     /// # Errors
     ///
-    /// `Nothing` exactly where there is nothing to undo, and `Dropped` only where the replica doesn't keep the epoch of what is
+    /// `Nothing` exactly where there is nothing to undo, or to redo, and `Dropped` only where the replica doesn't keep the epoch of what is
     /// recorded; then nothing changes. After `Edit`, with the fault of the first edit that is refused, and after `OutOfMemory` the steps
-    /// before are taken back and can be redone, and of the step in hand some ranges may be. The rest stays, so that another `undo` goes
-    /// on with it.
-    pub fn undo(
+    /// before are taken back and can be redone, and of the step in hand some ranges may be. The rest stays, so that another turn goes on
+    /// with it. Of a group that is done again it is the same the other way round.
+    pub fn turn(
+        &mut self,
+        replica: &mut Replica,
+        turn: Turn,
+        changes: &mut Vec<Change>,
+    ) -> Result<usize, StepError>
+        ensures nothing { IsErrOf result StepError.Nothing ↔ ((facing turn self.old).past ≡ []) }
+        ensures stays { IsErrOf result StepError.Nothing → (replica.new ≡ replica.old) × (self.new ≡ self.old) × (changes.new.items ≡ changes.old.items) }
+        ensures memory { IsErrOf result (StepError.Edit EditError.OutOfMemory) → ⊥ }
+        ensures dropped { (e : EpochName) → IsErrOf result (StepError.Dropped e) → (self.old.epoch ≡ e) × IsFalse (keeps replica.old e) × (replica.new ≡ replica.old) × (self.new ≡ self.old) × (changes.new.items ≡ changes.old.items) }
+        ensures fits { OnOk result (MayRun (steps_over replica.old self.old) (moves_of turn self.old)) }
+        ensures after { OnOk result (steps_over replica.new self.new ≡ course (steps_over replica.old self.old) (moves_of turn self.old)) }
+        ensures stopped { (f : EditError) → IsErrOf result (StepError.Edit f) → IsTurnStopped f turn replica.old self.old replica.new self.new }
+        ensures spent { IsErrOf result StepError.OutOfMemory → ((replica.new ≡ replica.old) × (self.new ≡ self.old)) ⊎ IsTurnStopped EditError.OutOfMemory turn replica.old self.old replica.new self.new }
+        ensures left { OnOk result ((facing turn self.new).past ≡ take (length (facing turn self.old).past - turn_size turn self.old) (facing turn self.old).past) }
+        ensures exact { IfOk result (λ n. turned_on over turn replica.old self.old ≡ record { steps = n; fault = None; state = replica.new; recorded = self.new }) }
+        ensures refused { (f : EditError) → IsErrOf result (StepError.Edit f) → turned_on over turn replica.old self.old ≡ record { steps = turn_size turn self.old; fault = Some f; state = replica.new; recorded = self.new } }
+        ensures names { KeepsNames replica.old replica.new }
+        ensures changes { OnOk result (changes.new.items ≡ changes.old.items ++ turned_changes turn replica.old self.old) }
+        ensures edits { OnOk result (changes.new.items ≡ changes.old.items ++ edit_changes (turned_edits over turn replica.old self.old)) }
+        ensures refused_edits { (f : EditError) → IsErrOf result (StepError.Edit f) → changes.new.items ≡ changes.old.items ++ edit_changes (turned_edits over turn replica.old self.old) }
+
+        // Some of the first of these changes stand after the others also after an error, and lead from the text before to the text now.
+        ensures told { AreTold (turned_changes turn replica.old self.old) changes.old.items changes.new.items (text_over replica.old) (text_over replica.new) }
+        ensures shows { OnOk result ((c : Copies) → Shows (steps_over replica.old self.old) c → Shows (steps_over replica.new self.new) (copies c (moves_of turn self.old))) }
+    {
+        self.face(turn);
+        let done = self.take_back(replica, changes);
+        self.face(turn);
+        done
+    }
+
+    // With the stacks exchanged where a group is done again. It takes no memory.
+    fn face(&mut self, turn: Turn)
+        ensures facing { self.new ≡ facing turn self.old }
+    {
+        if let Turn::Again = turn {
+            mem::swap(&mut self.past, &mut self.future);
+        }
+    }
+
+    // Takes the last group back.
+    fn take_back(
         &mut self,
         replica: &mut Replica,
         changes: &mut Vec<Change>,
     ) -> Result<usize, StepError>
         ensures nothing { IsErrOf result StepError.Nothing ↔ (self.old.past ≡ []) }
-        ensures stays { IsErrOf result StepError.Nothing → (replica.new ≡ replica.old) × (self.new ≡ self.old) }
+        ensures stays { IsErrOf result StepError.Nothing → (replica.new ≡ replica.old) × (self.new ≡ self.old) × (changes.new.items ≡ changes.old.items) }
         ensures memory { IsErrOf result (StepError.Edit EditError.OutOfMemory) → ⊥ }
-        ensures dropped { (e : EpochName) → IsErrOf result (StepError.Dropped e) → (self.old.epoch ≡ e) × IsFalse (keeps replica.old e) × (replica.new ≡ replica.old) × (self.new ≡ self.old) }
-        ensures size { IfOk result (λ n. n ≡ group_size self.old.past) }
+        ensures dropped { (e : EpochName) → IsErrOf result (StepError.Dropped e) → (self.old.epoch ≡ e) × IsFalse (keeps replica.old e) × (replica.new ≡ replica.old) × (self.new ≡ self.old) × (changes.new.items ≡ changes.old.items) }
         ensures fits { OnOk result (MayRun (steps_over replica.old self.old) (replicate (group_size self.old.past) Back)) }
         ensures after { OnOk result (steps_over replica.new self.new ≡ course (steps_over replica.old self.old) (replicate (group_size self.old.past) Back)) }
         ensures stopped { (f : EditError) → IsErrOf result (StepError.Edit f) → IsStopped f (steps_over replica.old self.old).held self.old.past self.old.future (steps_over replica.new self.new).held self.new.past self.new.future }
@@ -387,12 +440,7 @@ impl Steps {
         ensures changes { OnOk result (changes.new.items ≡ changes.old.items ++ back_changes (group_size self.old.past) (steps_over replica.old self.old)) }
         ensures edits { OnOk result (changes.new.items ≡ changes.old.items ++ edit_changes (back_edits over replica.old self.old)) }
         ensures refused_edits { (f : EditError) → IsErrOf result (StepError.Edit f) → changes.new.items ≡ changes.old.items ++ edit_changes (back_edits over replica.old self.old) }
-        ensures none_told { IsErrOf result StepError.Nothing → changes.new.items ≡ changes.old.items }
-        ensures dropped_told { (e : EpochName) → IsErrOf result (StepError.Dropped e) → changes.new.items ≡ changes.old.items }
-
-        // Some of the first of these changes stand after the others also after an error, and lead from the text before to the text now.
         ensures told { AreTold (back_changes (group_size self.old.past) (steps_over replica.old self.old)) changes.old.items changes.new.items (text_over replica.old) (text_over replica.new) }
-        ensures shows { OnOk result ((c : Copies) → Shows (steps_over replica.old self.old) c → Shows (steps_over replica.new self.new) (copies c (replicate (group_size self.old.past) Back))) }
     {
         if self.past.len() == 0 {
             return Err(StepError::Nothing);
@@ -405,54 +453,6 @@ impl Steps {
             &mut self.next,
             &mut self.past,
             &mut self.future,
-            changes,
-        ) {
-            Ok(done) => Ok(done),
-            Err(error) => Err(step_error(error)),
-        }
-    }
-
-    /// Does the group again that was taken back last, and answers how many steps that were. It ends the open group. Cost and errors are
-    /// those of `undo`, with `Nothing` exactly where there is nothing to redo.
-    pub fn redo(
-        &mut self,
-        replica: &mut Replica,
-        changes: &mut Vec<Change>,
-    ) -> Result<usize, StepError>
-        ensures nothing { IsErrOf result StepError.Nothing ↔ (self.old.future ≡ []) }
-        ensures stays { IsErrOf result StepError.Nothing → (replica.new ≡ replica.old) × (self.new ≡ self.old) }
-        ensures memory { IsErrOf result (StepError.Edit EditError.OutOfMemory) → ⊥ }
-        ensures dropped { (e : EpochName) → IsErrOf result (StepError.Dropped e) → (self.old.epoch ≡ e) × IsFalse (keeps replica.old e) × (replica.new ≡ replica.old) × (self.new ≡ self.old) }
-        ensures size { IfOk result (λ n. n ≡ group_size self.old.future) }
-        ensures fits { OnOk result (MayRun (steps_over replica.old self.old) (replicate (group_size self.old.future) Again)) }
-        ensures after { OnOk result (steps_over replica.new self.new ≡ course (steps_over replica.old self.old) (replicate (group_size self.old.future) Again)) }
-        ensures stopped { (f : EditError) → IsErrOf result (StepError.Edit f) → IsStopped f (steps_over replica.old self.old).held self.old.future self.old.past (steps_over replica.new self.new).held self.new.future self.new.past }
-        ensures spent { IsErrOf result StepError.OutOfMemory → ((replica.new ≡ replica.old) × (self.new ≡ self.old)) ⊎ IsStopped EditError.OutOfMemory (steps_over replica.old self.old).held self.old.future self.old.past (steps_over replica.new self.new).held self.new.future self.new.past }
-        ensures left { OnOk result (self.new.future ≡ take (length self.old.future - group_size self.old.future) self.old.future) }
-        ensures exact { IfOk result (λ n. again_on over replica.old self.old ≡ record { steps = n; fault = None; state = replica.new; recorded = self.new }) }
-        ensures refused { (f : EditError) → IsErrOf result (StepError.Edit f) → again_on over replica.old self.old ≡ record { steps = group_size self.old.future; fault = Some f; state = replica.new; recorded = self.new } }
-        ensures names { KeepsNames replica.old replica.new }
-        ensures changes { OnOk result (changes.new.items ≡ changes.old.items ++ back_changes (group_size self.old.future) (turned (steps_over replica.old self.old))) }
-        ensures edits { OnOk result (changes.new.items ≡ changes.old.items ++ edit_changes (again_edits over replica.old self.old)) }
-        ensures refused_edits { (f : EditError) → IsErrOf result (StepError.Edit f) → changes.new.items ≡ changes.old.items ++ edit_changes (again_edits over replica.old self.old) }
-        ensures none_told { IsErrOf result StepError.Nothing → changes.new.items ≡ changes.old.items }
-        ensures dropped_told { (e : EpochName) → IsErrOf result (StepError.Dropped e) → changes.new.items ≡ changes.old.items }
-
-        // Some of the first of these changes stand after the others also after an error, and lead from the text before to the text now.
-        ensures told { AreTold (back_changes (group_size self.old.future) (turned (steps_over replica.old self.old))) changes.old.items changes.new.items (text_over replica.old) (text_over replica.new) }
-        ensures shows { OnOk result ((c : Copies) → Shows (steps_over replica.old self.old) c → Shows (steps_over replica.new self.new) (copies c (replicate (group_size self.old.future) Again))) }
-    {
-        if self.future.len() == 0 {
-            return Err(StepError::Nothing);
-        }
-        self.settle_for(replica)?;
-        self.close();
-        match back(
-            replica,
-            &mut self.names,
-            &mut self.next,
-            &mut self.future,
-            &mut self.past,
             changes,
         ) {
             Ok(done) => Ok(done),
@@ -475,7 +475,7 @@ fn step_error(error: EditError) -> StepError
     }
 }
 
-// The same error, as an edit, an undo and a redo answer it.
+// The same error, as an edit and a turn answer it.
 fn past_error(error: PastError) -> StepError
     ensures nothing { result ≡ StepError.Nothing → ⊥ }
     ensures edit { (f : EditError) → result ≡ StepError.Edit f → ⊥ }

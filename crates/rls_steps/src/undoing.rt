@@ -1,4 +1,5 @@
 //! Groups of steps.
+//! Why: docs/DECISIONS.md, 242.
 
 ghost use Rattle.std.specs.Prelude.{◌≡◌, ℕ, suc, ◌-◌, ◌++◌, ◌<◌, ◌≤◌, length, take, replicate, slice_get, reverse, Some, None, IfOk, IfErr, OnOk, OnErr, IsTrue, ◌↔◌, if◌then◌else◌};
 ghost use Rattle.rls_seen.specs.Edits.{IsFault};

@@ -4,7 +4,7 @@ use super::pairs::{Members, shows};
 use rls_changes::{Change, push_own, take, take_bytes, undo};
 use rls_ops::{Message, Ops};
 use rls_replica::Replica;
-use rls_steps::Steps;
+use rls_steps::{Steps, Turn};
 use rls_sync::message_bytes;
 use rls_undo::Undo;
 use std::alloc::{AllocError, Global};
@@ -197,11 +197,11 @@ fn returned(alloc: Global, pair: &mut Changers, words: &'static str) -> Result<S
             Ok(lines_and(alloc, &changes, answer)?)
         }
         "back" => {
-            let answer = pair.steps.undo(first, &mut changes);
+            let answer = pair.steps.turn(first, Turn::Back, &mut changes);
             Ok(lines_and(alloc, &changes, answer)?)
         }
         "again" => {
-            let answer = pair.steps.redo(first, &mut changes);
+            let answer = pair.steps.turn(first, Turn::Again, &mut changes);
             Ok(lines_and(alloc, &changes, answer)?)
         }
         "close" => {

@@ -2,7 +2,7 @@
 
 use rls_replica::{Edit, Replica};
 use rls_runs::Text;
-use rls_steps::Steps;
+use rls_steps::{Steps, Turn};
 use std::alloc::{AllocError, Global};
 use std::test::Fail;
 use test_steps::steps::{letter, takes};
@@ -182,12 +182,20 @@ fn moves(alloc: Global, course: &mut Course) -> Result<bool, Fail> {
     match course.dice.below(13) {
         0..=3 => insert(alloc, course),
         4..=5 => delete(alloc, course),
-        6..=7 => Ok(
-            course.copies.undo()? == course.steps.undo(&mut course.replica, &mut changes).is_ok(),
-        ),
-        8..=9 => Ok(
-            course.copies.redo()? == course.steps.redo(&mut course.replica, &mut changes).is_ok(),
-        ),
+        6..=7 => {
+            let went = course
+                .steps
+                .turn(&mut course.replica, Turn::Back, &mut changes)
+                .is_ok();
+            Ok(course.copies.undo()? == went)
+        }
+        8..=9 => {
+            let went = course
+                .steps
+                .turn(&mut course.replica, Turn::Again, &mut changes)
+                .is_ok();
+            Ok(course.copies.redo()? == went)
+        }
         10 => {
             course.steps.close();
             course.copies.open = false;
@@ -256,7 +264,9 @@ fn deletes_at_once(course: &mut Course) -> bool {
 /// Whether two insertions bring them back.
 fn comes_back(alloc: Global, course: &mut Course) -> bool {
     let mut changes = Vec::new(alloc);
-    let back = course.steps.undo(&mut course.replica, &mut changes);
+    let back = course
+        .steps
+        .turn(&mut course.replica, Turn::Back, &mut changes);
     back == Ok(2) && course.replica.total() == 1048579
 }
 

@@ -4,7 +4,7 @@
 use rls_changes::{Change, push_own, take_bytes, undo};
 use rls_replica::{Edit, Replica};
 use rls_runs::Text;
-use rls_steps::{StepError, Steps};
+use rls_steps::{StepError, Steps, Turn};
 use rls_sync::message_bytes;
 use rls_undo::{Undo, UndoError};
 use std::alloc::{AllocError, Global};
@@ -142,14 +142,14 @@ fn undoes(side: &mut Side, changes: &mut Vec<Change>) -> Result<(), Fail> {
 }
 
 fn goes_back(side: &mut Side, changes: &mut Vec<Change>) -> Result<(), Fail> {
-    match side.steps.undo(&mut side.replica, changes) {
+    match side.steps.turn(&mut side.replica, Turn::Back, changes) {
         Ok(_) | Err(StepError::Nothing) => Ok(()),
         Err(error) => Err(Fail::from(error)),
     }
 }
 
 fn goes_again(side: &mut Side, changes: &mut Vec<Change>) -> Result<(), Fail> {
-    match side.steps.redo(&mut side.replica, changes) {
+    match side.steps.turn(&mut side.replica, Turn::Again, changes) {
         Ok(_) | Err(StepError::Nothing) => Ok(()),
         Err(error) => Err(Fail::from(error)),
     }

@@ -2,7 +2,7 @@
 
 use super::pairs::{Members, Pair, Row, fault, text_of_settled};
 use rls_replica::Replica;
-use rls_steps::{StepError, Steps};
+use rls_steps::{StepError, Steps, Turn};
 use std::alloc::{AllocError, Global};
 use std::test::Fail;
 use test_steps::rows::{all_go_within, change_of, number, word};
@@ -47,8 +47,8 @@ pub(crate) fn step(
     let mut changes = Vec::new(alloc);
     match verb {
         "edit" => Ok(edit(alloc, steps, replica, change_of(rest)?)?),
-        "undo" => Ok(text_of_steps(alloc, steps.undo(replica, &mut changes))?),
-        "redo" => Ok(text_of_steps(alloc, steps.redo(replica, &mut changes))?),
+        "undo" => Ok(text_of_steps(alloc, steps.turn(replica, Turn::Back, &mut changes))?),
+        "redo" => Ok(text_of_steps(alloc, steps.turn(replica, Turn::Again, &mut changes))?),
         _ => look(alloc, steps, replica, words),
     }
 }
