@@ -4,7 +4,7 @@ use Rattle.std.specs.Prelude.{◌&&◌, ◌==◌, IsTrue, codes, encode_utf8_all
 use Rattle.std.proofs.lemmas.List.{append-nil}
 use Rattle.rls_ident.specs.declared.limits.TheConstants.{INPUT_BYTES}
 use Rattle.rls_ident.specs.Lists.{IsIn}
-use Rattle.rls_ident.proofs.Members.{and_true, eq_test, in_left, lt_is}
+use Rattle.rls_ident.proofs.Members.{and_true, eq_is, eq_test, in_left, lt_is}
 use Rattle.rls_ops.specs.declared.message.Message.{Message}
 use Rattle.rls_ops.specs.Spelling.{message_bytes}
 use Rattle.rls_codec.specs.CodecLaws.{IsBytes, IsMessage}
@@ -19,7 +19,7 @@ use Rattle.rls_model.specs.Document.{text}
 use Rattle.rls_model.specs.History.{group_of, members_of}
 use Rattle.rls_model.specs.Laws.{IsAt, IsFront, AreEdits}
 use Rattle.rls_model.specs.Receiving.{State}
-use Rattle.rls_model.specs.Taking.{message_for, take_message}
+use Rattle.rls_model.specs.Taking.{message_for, message_told, take_message}
 use Rattle.rls_model.specs.Worlds.{World}
 use Rattle.rls_model.proofs.HistoryNumbers.{front_self, front_trans}
 use Rattle.rls_model.proofs.NothingReady.{IsAtRest}
@@ -27,15 +27,15 @@ use Rattle.rls_model.proofs.WorldsCommands.{with_done}
 use Rattle.rls_model.proofs.WorldsInvariant.{at_later}
 use Rattle.rls_model.proofs.WorldsPast.{taking_goes_on}
 use Rattle.rls_model.proofs.WorldsArrived.{edit_stays, message_stays}
-use Rattle.rls_seen.specs.Messages.{message_over}
+use Rattle.rls_seen.specs.Messages.{message_over, message_told_over, told_over}
 use Rattle.rls_seen.specs.Over.{first_ready, release_of, release_over, released, released_all}
 use Rattle.rls_seen.specs.Seen.{Seen, members, vector}
 use Rattle.rls_seen.specs.Stands.{StandsFor}
 use Rattle.rls_seen.proofs.Keeping.{text_alike}
 use Rattle.rls_seen.proofs.Releasing.{first_alike}
 use Rattle.rls_seen.proofs.Repeating.{all_done}
-use Rattle.rls_seen.proofs.Sending.{message_alike, message_fits}
-use Rattle.rls_file.proofs.HistoryMessages.{sent_is_message}
+use Rattle.rls_seen.proofs.Sending.{beyond_fits, message_alike, message_fits, told_alike as message_told_alike}
+use Rattle.rls_file.proofs.HistoryMessages.{sent_is_message, told_is_message}
 use Rattle.rls_file.proofs.Storable.{released_still}
 use Rattle.rls_undo.specs.declared.entry.Entry.{Entry}
 use Rattle.rls_replica.specs.Names.{keeps}
@@ -52,7 +52,7 @@ use Rattle.rls_stages.proofs.Meant.{IsLine, IsMeantWell, line_well}
 use Rattle.rls_top.specs.Groups.{Group}
 use Rattle.rls_top.proofs.Groups.{Matches, of_file, shown}
 use Rattle.rls_session.specs.declared.orders.Order.TheVariants as orders
-use Rattle.rls_session.specs.Answers.{Sitting, answer, edited, if_steps, made_changes, message_changes, read_line, rested, sent, taken, taken_at, text_reply, told, told_rested, undone, undone_by_plan, with_begun, with_caught_up, with_changes, with_state}
+use Rattle.rls_session.specs.Answers.{Sitting, answer, edited, if_steps, made_changes, message_changes, read_line, rested, sent, sent_told, taken, taken_at, text_reply, told, told_rested, undone, undone_by_plan, with_begun, with_caught_up, with_changes, with_state}
 use Rattle.rls_changes.specs.declared.change.Change.{Change}
 use Rattle.rls_changes.specs.Edits.{performed_edits_in}
 use Rattle.rls_changes.specs.Telling.{all_released_changes, all_released_changes_in, ready_changes, times_changes}
@@ -83,7 +83,7 @@ use Rattle.rls_groups.proofs.Making.{all_made, front_performed}
 use Rattle.rls_groups.proofs.Past.{past_same}
 use Rattle.rls_groups.proofs.Requests.{Steps}
 use Rattle.rls_groups.proofs.Staying.{Follows, follows_self}
-use Rattle.rls_groups.proofs.Steps.{IsUnderway, at, edits, performs, rests, sends_on, takes}
+use Rattle.rls_groups.proofs.Steps.{IsUnderway, at, edits, performs, rests, sends_on, takes, tells_on}
 
 -- each request but a change, which is answered where something may be drafted
 abbrev pub IsOther : Request → Type 0
@@ -364,55 +364,88 @@ module _ (g n : ℕ) (G : Group) (w : World) (x : Matches g n G w) (i : ℕ) (s 
     unfolding answer
     send_reply to = refl
 
+    -- this is answered, and may be handed on
+    message_step : (r : Request) (m : Message) (bytes : List ℕ) → IsGiven r → next_of r ≡ f.state → IsUnderway g n w i f.state (out ++ m ∷ []) → IsTold bytes m → replied d r ≡ bytes ∷ [] → IsCleanHere d r → IsAnswered (seated f) r → Stepped d f out r
+    message_step r m bytes given same under is replied_is clean meant =
+        let k = answer_alike d f r given b.alike in
+        record {
+          more = m ∷ [];
+          reply = k.reply;
+          next = record {
+            alike = k.states;
+            underway = subst (λ (t : State). IsUnderway g n w i t (out ++ m ∷ [])) (sym same) under;
+            front = subst (λ (t : State). IsFront s.history t.history) (sym same) b.front;
+          };
+          later = subst (λ (t : State). Follows f.state t × IsAtRest t) (sym same) (follows_self f.state, ((b.underway).storable).rest);
+          clean = clean;
+          meant = λ v l. meant;
+          told = λ a p. (m, inl refl, subst (λ (y : List ℕ). IsTold y m) (the_one a bytes (subst (IsIn a) replied_is p)) is);
+        }
+      where
+        the_one : (a y : List ℕ) → IsIn a (y ∷ []) → y ≡ a
+        the_one a y (inl q) = q
+        the_one a y (inr q) = absurd q
+
+    -- a message of this history is short enough, and has a spelling
+    told_of : (m : Message) (bytes : List ℕ) → bytes ≡ message_bytes m → IsMessage (message_bytes m) m → length bytes ≤ INPUT_BYTES → IsTold bytes m
+    told_of m bytes same is short = (subst (λ (y : List ℕ). IsMessage y m) (sym same) is, short)
+
     send_step : (to : ℕ) → Stepped d f out (Does (orders.Send to))
     send_step to = go (nat_lt to (members d.state)) refl
       where
         r : Request
         r = Does (orders.Send to)
 
-        m : Message
-        m = message_for (f.state).history to
-
         bytes : List ℕ
         bytes = message_bytes (message_over d.state to)
 
-        there : to < members d.state → IsTold bytes m
-        there l =
-            let same : bytes ≡ message_bytes m = ap message_bytes (message_alike d.state f.state to l (b.alike).stands) in (
-              subst (λ (y : List ℕ). IsMessage y m) (sym same) (sent_is_message f.state to (b.underway).storable),
-              subst (λ (y : ℕ). y ≤ INPUT_BYTES) (sym (message_length 3 (message_over d.state to))) (message_fits d.state to ((b.alike).sane).few),
-            )
-
-        -- of these messages, if the member is known
-        among : (known : Bool) → nat_lt to (members d.state) ≡ known → (a : List ℕ) → IsIn a (replied d r) → IsIn a (cond {A = List (List ℕ)} known (bytes ∷ []) [])
-        among known e a p = subst (λ (c : Bool). IsIn a (cond {A = List (List ℕ)} c (bytes ∷ []) [])) e p
-
-        told : to < members d.state → (a : List ℕ) → IsIn a (bytes ∷ []) → (y : Message) × IsIn y (m ∷ []) × IsTold a y
-        told l a (inl q) = (m, inl refl, subst (λ (y : List ℕ). IsTold y m) q (there l))
-        told l a (inr q) = absurd q
-
-        reply : nat_lt to (members d.state) ≡ true → (message : List ℕ) → IsIn message (bytes ∷ []) → (answer by_parts d r).reply ≡ bytes_text (codes "message") message
-        reply e message (inl q) = send_reply to ∙ rw e (ap (bytes_text (codes "message")) q)
-        reply e message (inr q) = absurd q
+        reply : (message : List ℕ) → IsIn message (bytes ∷ []) → bytes_text (codes "message") bytes ≡ bytes_text (codes "message") message
+        reply message (inl q) = ap (bytes_text (codes "message")) q
+        reply message (inr q) = absurd q
 
         go : (known : Bool) → nat_lt to (members d.state) ≡ known → Stepped d f out r
-        go false e = quiet r tt (send_same to) (λ message p. absurd (among false e message p)) tt (rw e refl)
+        go false e = let none : replied d r ≡ [] = rw e refl in quiet r tt (send_same to) (λ message p. absurd (subst (IsIn message) none p)) tt none
         go true e =
-            let k = answer_alike d f r tt b.alike in
-            let l = lt_is to (members d.state) e in
-            record {
-              more = m ∷ [];
-              reply = k.reply;
-              next = record {
-                alike = k.states;
-                underway = subst (λ (t : State). IsUnderway g n w i t (out ++ m ∷ [])) (sym (send_same to)) (sends_on g n w i s h f.state out b.underway to);
-                front = subst (λ (t : State). IsFront s.history t.history) (sym (send_same to)) b.front;
-              };
-              later = subst (λ (t : State). Follows f.state t × IsAtRest t) (sym (send_same to)) (follows_self f.state, ((b.underway).storable).rest);
-              clean = λ message p. reply e message (among true e message p);
-              meant = λ v l. tt;
-              told = λ a p. told l a (among true e a p);
-            }
+            let one : replied d r ≡ bytes ∷ [] = rw e refl in
+            message_step r (message_for (f.state).history to) bytes tt (send_same to) (sends_on g n w i s h f.state out b.underway to)
+            (told_of (message_for (f.state).history to) bytes (ap message_bytes (message_alike d.state f.state to (lt_is to (members d.state) e) (b.alike).stands)) (sent_is_message f.state to (b.underway).storable)
+            (subst (λ (y : ℕ). y ≤ INPUT_BYTES) (sym (message_length 3 (message_over d.state to))) (message_fits d.state to ((b.alike).sane).few)))
+            one (λ message p. send_reply to ∙ rw e (reply message (subst (IsIn message) one p))) tt
+
+    told_stays : (to : ℕ) (told : List ℕ) → next_of (Does (orders.SendTold to told)) ≡ f.state
+    unfolding answer
+    told_stays to told = refl
+
+    told_reply : (to : ℕ) (told : List ℕ) → (answer by_parts d (Does (orders.SendTold to told))).reply ≡ sent_told by_parts d.state to told
+    unfolding answer
+    told_reply to told = refl
+
+    -- for a member that told these counts
+    told_step : (to : ℕ) (told : List ℕ) → Stepped d f out (Does (orders.SendTold to told))
+    told_step to told = go (length told == members d.state) refl (nat_lt to (members d.state)) refl
+      where
+        r : Request
+        r = Does (orders.SendTold to told)
+
+        bytes : List ℕ
+        bytes = message_bytes (message_told_over d.state to told)
+
+        m : Message
+        m = message_told (f.state).history to told
+
+        reply : (message : List ℕ) → IsIn message (bytes ∷ []) → bytes_text (codes "message") bytes ≡ bytes_text (codes "message") message
+        reply message (inl q) = ap (bytes_text (codes "message")) q
+        reply message (inr q) = absurd q
+
+        go : (counted : Bool) → (length told == members d.state) ≡ counted → (known : Bool) → nat_lt to (members d.state) ≡ known → Stepped d f out r
+        go false c known e = let none : replied d r ≡ [] = rw c refl in quiet r tt (told_stays to told) (λ message p. absurd (subst (IsIn message) none p)) tt none
+        go true c false e = let none : replied d r ≡ [] = rw (c, e) refl in quiet r tt (told_stays to told) (λ message p. absurd (subst (IsIn message) none p)) tt none
+        go true c true e =
+            let one : replied d r ≡ bytes ∷ [] = rw (c, e) refl in
+            message_step r m bytes tt (told_stays to told) (tells_on g n w i s h f.state out b.underway to told)
+            (told_of m bytes (ap message_bytes (message_told_alike d.state f.state to told (lt_is to (members d.state) e) (eq_is (length told) (members d.state) c) (b.alike).stands)) (told_is_message f.state to told (b.underway).storable)
+            (subst (λ (y : ℕ). y ≤ INPUT_BYTES) (sym (message_length 3 (message_told_over d.state to told))) (beyond_fits d.state (told_over d.state to told) ((b.alike).sane).few)))
+            one (λ message p. told_reply to told ∙ rw (c, e) (reply message (subst (IsIn message) one p))) tt
 
     take_step : (bytes : List ℕ) → IsBytes bytes → IsIn bytes G.written → Stepped d f out (Takes bytes)
     unfolding answer
@@ -448,5 +481,6 @@ module _ (g n : ℕ) (G : Group) (w : World) (x : Matches g n G w) (i : ℕ) (s 
     steps (Does (orders.Point side p k)) other ok given = quiet (Does (orders.Point side p k)) ok (either (ltb (length (text_in f.state)) p) _ _ refl refl) tt tt refl
     steps (Does orders.Text) other ok given = quiet (Does orders.Text) ok refl text_clean tt refl
     steps (Does (orders.Send to)) other ok given = send_step to
+    steps (Does (orders.SendTold to told)) other ok given = told_step to told
     steps (Does order) other ok given = quiet (Does order) ok refl tt tt refl
     steps (Takes bytes) other ok given = take_step bytes ok given

@@ -11,7 +11,7 @@ use Rattle.rls_model.specs.Editing.{edit_fault, made}
 use Rattle.rls_model.specs.History.{members_of}
 use Rattle.rls_model.specs.Laws.{IsAt, IsFront, AreEdits}
 use Rattle.rls_model.specs.Receiving.{State, accept, after_release, release_all, released_times}
-use Rattle.rls_model.specs.Taking.{message_for, started, take_message}
+use Rattle.rls_model.specs.Taking.{message_for, message_told, started, take_message}
 use Rattle.rls_model.specs.WellFormed.{IsEdit}
 use Rattle.rls_model.specs.Worlds.{World, with_state}
 use Rattle.rls_model.proofs.HistoryNumbers.{front_self}
@@ -19,9 +19,9 @@ use Rattle.rls_model.proofs.MemberSteps.{edited_going, taken_going}
 use Rattle.rls_model.proofs.NothingReady.{IsAtRest, edited_done, made_alone}
 use Rattle.rls_model.proofs.OnePlace.{get_set_same, set_set}
 use Rattle.rls_model.proofs.WorldsCommands.{Stands, with_done}
-use Rattle.rls_model.proofs.WorldsGroup.{sent_belongs, set_belongs}
+use Rattle.rls_model.proofs.WorldsGroup.{sent_belongs, set_belongs, told_belongs}
 use Rattle.rls_model.proofs.WorldsInvariant.{IsGood}
-use Rattle.rls_model.proofs.WorldsLaws.{posts, sends}
+use Rattle.rls_model.proofs.WorldsLaws.{posts, sends, tells}
 use Rattle.rls_model.proofs.WorldsPast.{taking_goes_on}
 use Rattle.rls_model.proofs.WorldsArrived.{edit_stays}
 use Rattle.rls_file.specs.Storable.{IsStorable}
@@ -80,14 +80,21 @@ module _ (g n : ℕ) (w : World) (i : ℕ) (s : State) (h : IsAt w i s) where
         (moves (take_message t m).state going.good (taking_goes_on None t m) (taken_storable t bytes m is many k.storable), going.clean)
 
     -- a message is made
+    posts_on : (m : Message) → Stands g n (record v { sent = v.sent ++ m ∷ [] }) → IsUnderway g n w i t (out ++ m ∷ [])
+    posts_on m s =
+        let same : record { states = v.states; sent = v.sent ++ m ∷ [] } ≡ with_done w i t (out ++ m ∷ []) = ap (λ (ms : List Message). record { states = slice_set w.states i t; sent = ms }) (append_assoc w.sent out (m ∷ [])) in
+        record { stands = subst (Stands g n) same s; storable = k.storable }
+
     pub sends_on : (to : ℕ) → IsUnderway g n w i t (out ++ message_for t.history to ∷ [])
     sends_on to =
         let m = message_for t.history to in
-        let same : record { states = v.states; sent = v.sent ++ m ∷ [] } ≡ with_done w i t (out ++ m ∷ []) = ap (λ (ms : List Message). record { states = slice_set w.states i t; sent = ms }) (append_assoc w.sent out (m ∷ [])) in
-        record {
-          stands = subst (Stands g n) same (record { good = posts v m (k.stands).good (sends v i t to (k.stands).good (at t out)); belongs = sent_belongs g n v t to i (k.stands).belongs (at t out) });
-          storable = k.storable;
-        }
+        posts_on m (record { good = posts v m (k.stands).good (sends v i t to (k.stands).good (at t out)); belongs = sent_belongs g n v t to i (k.stands).belongs (at t out) })
+
+    -- for a member that told these counts, be they what it told or not
+    pub tells_on : (to : ℕ) (told : List ℕ) → IsUnderway g n w i t (out ++ message_told t.history to told ∷ [])
+    tells_on to told =
+        let m = message_told t.history to told in
+        posts_on m (record { good = posts v m (k.stands).good (tells v i t to told (k.stands).good (at t out)); belongs = told_belongs g n v t to told i (k.stands).belongs (at t out) })
 
   -- edits, one after another, up to the first that is refused
   pub performs : (es : List Edit) (t : State) (out : List Message) → AreEdits es → IsUnderway g n w i t out → IsUnderway g n w i (performed t es) out × Follows t (performed t es)

@@ -1,9 +1,10 @@
 -- What one run of the program leaves in a group: a command, or a session from store to store.
-use Rattle.std.specs.Prelude.{◌≡◌, ◌<◌, ◌-◌, ℕ, zero, suc, Bool, true, false, List, [], ◌∷◌, ◌++◌, length, nat_lt, slice_get, Option, Some, None, Result, Ok, Err, IfOk, IsTrue, if◌then◌else◌}
+-- Why: docs/DECISIONS.md, 91.
+use Rattle.std.specs.Prelude.{◌≡◌, ◌<◌, ◌-◌, ℕ, zero, suc, Bool, true, false, List, [], ◌∷◌, ◌++◌, ◌==◌, length, nat_lt, slice_get, Option, Some, None, Result, Ok, Err, IfOk, IsTrue, if◌then◌else◌}
 use Rattle.rls_ident.specs.Lists.{IsIn}
 use Rattle.rls_ops.specs.Spelling.{message_bytes}
 use Rattle.rls_codec.specs.CodecLaws.{IsBytes}
-use Rattle.rls_seen.specs.Messages.{message_over}
+use Rattle.rls_seen.specs.Messages.{message_over, message_told_over}
 use Rattle.rls_seen.specs.Seen.{Seen, members}
 use Rattle.rls_undo.specs.declared.entry.Entry.{Entry}
 use Rattle.rls_undo.specs.UndoLaws.{AreWhole}
@@ -103,6 +104,7 @@ replied d (Does (orders.Locate place)) = []
 replied d (Does orders.Text) = []
 replied d (Does (orders.Take len)) = []
 replied d (Does (orders.Send to)) = if nat_lt to (members d.state) then message_bytes (message_over d.state to) ∷ [] else []
+replied d (Does (orders.SendTold to told)) = if length told == members d.state then (if nat_lt to (members d.state) then message_bytes (message_told_over d.state to told) ∷ [] else []) else []
 replied d (Does (orders.Tell on)) = []
 replied d (Does orders.Stat) = []
 replied d (Does (orders.Version n)) = []
@@ -209,6 +211,7 @@ IsWritten g (Does (orders.Locate place)) = Unit {0}
 IsWritten g (Does orders.Text) = Unit {0}
 IsWritten g (Does (orders.Take len)) = Unit {0}
 IsWritten g (Does (orders.Send to)) = Unit {0}
+IsWritten g (Does (orders.SendTold to told)) = Unit {0}
 IsWritten g (Does (orders.Tell on)) = Unit {0}
 IsWritten g (Does orders.Stat) = Unit {0}
 IsWritten g (Does (orders.Version n)) = Unit {0}

@@ -1,4 +1,5 @@
 -- The law of a group whose members work by commands and by sessions.
+-- Why: docs/DECISIONS.md, 88.
 use Rattle.std.specs.Prelude.{◌≡◌, ◌<◌, ◌≤◌, ◌⊎◌, ◌↔◌, ℕ, true, List, [], ◌∷◌, ◌++◌, codes, length, slice_get, Option, Some, None, Result, Ok, IsFalse, Err}
 use Rattle.rls_ident.specs.declared.limits.TheConstants.{FILE_BYTES, INPUT_BYTES, MEMBERS}
 use Rattle.rls_ident.specs.Lists.{IsIn}
@@ -73,7 +74,7 @@ IsShown K b at n cs = ShowsChange K b (draft_of at n cs) (respond K b (Does (ord
 
 -- A change of the editor is shown. Every other request is answered once the draft is made: an edit, an undo and steps that are taken back or done
 -- again release nothing that waits, and tell what they change alone; such steps take out their own characters alone, or put back what was cut out; `t` shows what others show; a message is taken, with none of its operations
--- refused; and the reply to `s` is the message that may be handed on. Of the rest the law says nothing.
+-- refused; and the reply to `s`, with or without counts, is the message that may be handed on. Of the rest the law says nothing.
 abbrev pub IsClean : Group → Seat Seen → Request → Type 0
 IsClean g b (Does (orders.Edit line)) = let d = at_work by_parts b in let r = read_line by_parts d.state line in respond by_parts b (Does (orders.Edit line)) ≡ at_seat (told d (made_changes r) (edited_by by_parts d r))
 IsClean g b (Does (orders.Change at n cs)) = IsShown by_parts b at n cs
@@ -88,6 +89,7 @@ IsClean g b (Does (orders.Locate place)) = Unit {0}
 IsClean g b (Does orders.Text) = IsTextOfAll g (vector (at_work by_parts b).state) (respond by_parts b (Does orders.Text)).reply
 IsClean g b (Does (orders.Take len)) = Unit {0}
 IsClean g b (Does (orders.Send to)) = (message : List ℕ) → IsIn message (replied_from b (Does (orders.Send to))) → (respond by_parts b (Does (orders.Send to))).reply ≡ bytes_text (codes "message") message
+IsClean g b (Does (orders.SendTold to told)) = (message : List ℕ) → IsIn message (replied_from b (Does (orders.SendTold to told))) → (respond by_parts b (Does (orders.SendTold to told))).reply ≡ bytes_text (codes "message") message
 IsClean g b (Does (orders.Tell on)) = Unit {0}
 IsClean g b (Does orders.Stat) = Unit {0}
 IsClean g b (Does (orders.Version n)) = Unit {0}
@@ -179,6 +181,7 @@ IsAnswered c (Does (orders.Locate place)) = Unit {0}
 IsAnswered c (Does orders.Text) = Unit {0}
 IsAnswered c (Does (orders.Take len)) = Unit {0}
 IsAnswered c (Does (orders.Send to)) = Unit {0}
+IsAnswered c (Does (orders.SendTold to told)) = Unit {0}
 IsAnswered c (Does (orders.Tell on)) = Unit {0}
 IsAnswered c (Does orders.Stat) = Unit {0}
 IsAnswered c (Does (orders.Version n)) = Unit {0}

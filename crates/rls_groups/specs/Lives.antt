@@ -1,4 +1,5 @@
 -- A group and what its files stand for: the history of each member, and what waits beside it, from event to event; and which events there are.
+-- Why: docs/DECISIONS.md, 116.
 use Rattle.std.specs.Prelude.{ℕ, ◌==◌, Bool, true, false, List, [], ◌∷◌, slice_get, slice_set, Option, Some, None, Result, Ok, Err, if◌then◌else◌}
 use Rattle.rls_ops.specs.declared.message.Message.{Message}
 use Rattle.rls_codec.specs.Reading.{message_of}

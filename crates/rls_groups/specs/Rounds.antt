@@ -1,4 +1,5 @@
 -- One round of messages in a group: once nobody edits, members who have told one another what they have show the same.
+-- Why: docs/DECISIONS.md, 245.
 use Rattle.std.specs.Prelude.{◌≡◌, ◌<◌, ◌≤◌, ◌⊎◌, ◌↔◌, ℕ, List, [], ◌∷◌, ◌++◌, Some, true, IsFalse}
 use Rattle.rls_ident.specs.declared.limits.TheConstants.{MEMBERS}
 use Rattle.rls_ident.specs.Lists.{IsIn}

@@ -1,4 +1,5 @@
 -- What a stop at any moment of a command or a session leaves.
+-- Why: docs/DECISIONS.md, 174.
 use Rattle.std.specs.Prelude.{◌≡◌, ◌⊎◌, ℕ, Bool, true, false, List, [], ◌∷◌, Option, Some, None, IsTrue}
 use Rattle.rls_ident.specs.Lists.{IsIn}
 use Rattle.rls_journal.specs.Areas.{Areas, kept}

@@ -1,4 +1,5 @@
 //! Grapheme clusters before a position.
+//! Why: CHOICES.md, 24.
 
 ghost use Rattle.std.specs.Prelude.{◌≡◌, true, map, length};
 ghost use Rattle.std.specs.Str.{IsUtf8, chars};

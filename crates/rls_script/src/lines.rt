@@ -1,4 +1,5 @@
 //! Lines of a script.
+//! Why: docs/DECISIONS.md, 211.
 
 ghost use Rattle.std.specs.Prelude.{◌≡◌, ◌<◌, ◌↔◌, IsTrue, [], length, slice_get, Some};
 

@@ -1,4 +1,5 @@
 //! Reading scripts.
+//! Why: CHOICES.md, 224.
 
 ghost use Rattle.std.specs.Prelude.{◌≡◌, ◌<◌, ◌≤◌, All, IsFalse, length, IfOk, IfSome, Option, Some, None, option_map};
 ghost use Rattle.std.specs.List.{position, position_or_len, before_first, after_first};

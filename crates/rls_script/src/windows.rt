@@ -1,4 +1,5 @@
 //! Grapheme clusters in a window of a text.
+//! Why: docs/DECISIONS.md, 90; CHOICES.md, 161.
 
 ghost use Rattle.std.specs.Prelude.{◌≡◌, ℕ, ◌+◌, ◌-◌, ◌<◌, ◌≤◌, List, length, drop, take, IfOk, IfSome, IfNone};
 ghost use Rattle.std.specs.List.{position_or_len};

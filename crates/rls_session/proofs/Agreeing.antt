@@ -19,9 +19,9 @@ use Rattle.rls_model.specs.Editing.{made, next_seq}
 use Rattle.rls_model.specs.History.{group_of, members_of}
 use Rattle.rls_model.specs.Receiving.{State}
 use Rattle.rls_model.specs.WellFormed.{IsEdit}
-use Rattle.rls_model.specs.Taking.{message_for, take_message}
+use Rattle.rls_model.specs.Taking.{message_for, message_told, take_message}
 use Rattle.rls_seen.specs.Edits.{edit_fault_over, edited, made_over}
-use Rattle.rls_seen.specs.Messages.{message_over, taken_over}
+use Rattle.rls_seen.specs.Messages.{message_over, message_told_over, taken_over}
 use Rattle.rls_seen.specs.Messages as seen
 use Rattle.rls_seen.specs.Over.{acknowledged}
 use Rattle.rls_seen.specs.Seen.{Seen, members, own_count, text_over}
@@ -29,7 +29,7 @@ use Rattle.rls_seen.specs.Stands.{StandsFor}
 use Rattle.rls_seen.proofs.Alike.{members_alike}
 use Rattle.rls_seen.proofs.Editing.{edited_stands, made_alike}
 use Rattle.rls_seen.proofs.Keeping.{text_alike}
-use Rattle.rls_seen.proofs.Sending.{message_alike}
+use Rattle.rls_seen.proofs.Sending.{message_alike, told_alike as message_told_alike}
 use Rattle.rls_seen.proofs.Taking.{taken_stands}
 use Rattle.rls_replica.specs.Names.{KeepsNames}
 use Rattle.rls_replica.proofs.KeptNames.{accepted_names, acknowledged_names, names_on, ops_names}
@@ -65,10 +65,10 @@ use Rattle.rls_session.specs.declared.cursors.Cursor.{Cursor}
 use Rattle.rls_session.specs.Cursors.{cursor_in, cursors_moved, cursors_with}
 use Rattle.rls_session.proofs.Numbered.{anchored_moved, anchored_with, in_anchored, moved_alike}
 use Rattle.rls_session.specs.declared.orders.Order.TheVariants as orders
-use Rattle.rls_session.specs.Answers.{Sitting, answer, place_text, placed, pointed, sent, made_changes, message_changes, taken, undone, undone_changes, with_begun, with_caught_up, with_cursors}
+use Rattle.rls_session.specs.Answers.{Sitting, answer, place_text, placed, pointed, sent, sent_told, made_changes, message_changes, taken, undone, undone_changes, with_begun, with_caught_up, with_cursors}
 use Rattle.rls_session.specs.Answers as answers
 use Rattle.rls_session.specs.Courses.{Answered}
-use Rattle.rls_session.specs.Replies.{bytes_text, cursor_text, failed_text, located_text, ok_text, refused_text}
+use Rattle.rls_session.specs.Replies.{bad_text, bytes_text, cursor_text, failed_text, located_text, ok_text, refused_text}
 use Rattle.rls_session.specs.Requests.{Does, Request, Takes}
 use Rattle.rls_session.specs.Sessions.{by_history, by_parts}
 use Rattle.rls_session.proofs.Entries.{caught_up_whole, entries_alike, entries_whole, whole_at, whole_front, whole_more}
@@ -366,6 +366,19 @@ sent_alike s t to h =
         ap (λ (m : Message). bytes_text (codes "message") (message_bytes m)) (message_alike s t to below h)
     go false e = refl
 
+sent_told_alike : (s : Seen) (t : State) (to : ℕ) (told : List ℕ) → StandsFor s t → sent_told by_parts s to told ≡ sent_told by_history t to told
+sent_told_alike s t to told h =
+    let n = members_alike s t h in
+    go (length told == members s) refl (ltb to (members s)) refl ∙ ap (λ k. cond (length told == k) (cond (ltb to k) (bytes_text (codes "message") (message_bytes (message_told t.history to told))) (failed_text (NotMember to))) bad_text) n
+  where
+    go : (a : Bool) → (length told == members s) ≡ a → (b : Bool) → ltb to (members s) ≡ b
+        → cond a (cond b (bytes_text (codes "message") (message_bytes (message_told_over s to told))) (failed_text (NotMember to))) bad_text ≡ cond a (cond b (bytes_text (codes "message") (message_bytes (message_told t.history to told))) (failed_text (NotMember to))) bad_text
+    go true k true e =
+        let below : to < members s = grind (arith, nat_tests) in
+        ap (λ (m : Message). bytes_text (codes "message") (message_bytes m)) (message_told_alike s t to told below (eqb-true (length told) (members s) k) h)
+    go true k false e = refl
+    go false k b e = refl
+
 -- ---- all requests
 
 pub answer_alike : (d : Sitting Seen) (f : Sitting State) (r : Request) → IsGiven r → IsAlike d f → AreAlike (answer by_parts d r) (answer by_history f r)
@@ -393,6 +406,7 @@ answer_alike d f (Does (orders.Locate place)) g h = record { reply = ap located_
 answer_alike d f (Does orders.Text) g h = record { reply = ap (λ cs. bytes_text (codes "text") (encode_utf8_all cs)) (text_alike d.state f.state h.stands); states = h }
 answer_alike d f (Does (orders.Take len)) g h = record { reply = refl; states = h }
 answer_alike d f (Does (orders.Send to)) g h = record { reply = sent_alike d.state f.state to h.stands; states = h }
+answer_alike d f (Does (orders.SendTold to told)) g h = record { reply = sent_told_alike d.state f.state to told h.stands; states = h }
 answer_alike d f (Does orders.Stat) g h = record { reply = ap (λ (t : List ℕ). bytes_text (codes "stat") t) (stat_alike d.state f.state h.stands); states = h }
 answer_alike d f (Does (orders.Version n)) g h = record { reply = refl; states = h }
 answer_alike d f (Does orders.Store) g h = record { reply = refl; states = h }

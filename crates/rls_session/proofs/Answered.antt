@@ -1,6 +1,6 @@
 -- What is answered, from its parts.
 use Rattle.std.proofs.Common.{◌≡◌, ◌∙◌, ◌<◌, ◌≤◌, ◌-◌, ℕ, Bool, suc, true, false, ltb, List, [], ◌∷◌, ◌++◌, length, Option, Some, None, Result, Ok, Err, IfOk, OnOk, OnErr, append-nil, refl, sym, ap, subst, arith, get_or}
-use Rattle.std.specs.Prelude.{IsTrue, ◌↔◌, codes}
+use Rattle.std.specs.Prelude.{IsTrue, ◌↔◌, codes, reverse}
 use Rattle.std.proofs.lemmas.Bool.Decides.{nat_tests}
 use Rattle.std.proofs.lemmas.Option.{slice_get-get_or}
 use Rattle.rls_runs.specs.Entries.{Entries, chars_in}
@@ -27,16 +27,18 @@ use Rattle.rls_changes.specs.Telling.{all_released_changes}
 use Rattle.rls_steps.specs.declared.piece.Step.{Step}
 use Rattle.rls_steps.specs.declared.steps.StepError.{StepError}
 use Rattle.rls_steps.specs.declared.steps.StepError.TheVariants as steps
-use Rattle.rls_steps.specs.Grounds.{over, recorded_on, Turned}
+use Rattle.rls_steps.specs.Grounds.{over, again_on, back_on, held_on, recorded_on, steps_edits, Turned}
+use Rattle.rls_steps.specs.Groups.{group_size}
 use Rattle.rls_steps.specs.Recorded.{Recorded}
+use Rattle.rls_steps.specs.Turning.{facing, turn_size, turned_edits, turned_on}
 use Rattle.rls_session.specs.Courses.{Answered}
 use Rattle.rls_anchor.specs.declared.anchor.Anchor.{Anchor}
 use Rattle.rls_anchor.specs.Anchors.{anchor_over}
 use Rattle.rls_session.specs.Answering.{IsAnswered}
-use Rattle.rls_session.specs.declared.desk.Turn.{Turn}
-use Rattle.rls_session.specs.declared.desk.Turn.TheVariants as turns
+use Rattle.rls_steps.specs.declared.steps.Turn.{Turn}
+use Rattle.rls_steps.specs.declared.steps.Turn.TheVariants as turns
 use Rattle.rls_session.specs.declared.orders.Side.{Side}
-use Rattle.rls_session.specs.Answers.{Sitting, edited, if_steps, made_sitting, says, told_rested, turn_text, turned, turned_group, turned_reply, with_changes, with_begun, with_entries, with_recorded, pointed, sent, spelled, undone, with_cursors, with_state}
+use Rattle.rls_session.specs.Answers.{Sitting, edited, if_steps, made_sitting, says, told_rested, turn_text, turned, turned_group, turned_reply, with_changes, with_begun, with_entries, with_recorded, pointed, sent, spelled, undone, with_cursors, with_state, sent_told, turn_edits}
 use Rattle.rls_session.specs.declared.cursors.Cursor.{Cursor}
 use Rattle.rls_session.specs.Cursors.{cursors_with}
 use Rattle.rls_session.specs.Desks.{IsTurnTold, TellsFault, sitting_of}
@@ -184,6 +186,35 @@ turn_answered a text turn xs t k d y e s q r view nothing stays exact refused to
         none_turned d e _ _ reply (none.0 refl) (told.1 ∙ same_turned s d.state d.entries d.cursors q d.recorded d.tells same.0 same.1) told.0
     go (Err (steps.Edit f)) reply none stays exact refused told = turned_said d e _ (turn_text turn) _ k (Some f) s q reply (λ h. errors_apart _ f refl (none.1 h)) (refused f refl) told.1 (fault_told f reply told.0)
     go (Err other) reply none stays exact refused told = absurd told
+
+-- so is a turn, either way
+pub group_answered : {X E : Type 0} (a : Result X E) (text : X → List ℕ) (turn : Turn) (d y e : Sitting Seen) (s : Seen) (q : Recorded) (r : Result ℕ StepError) → d ≡ y
+    → ((r ≡ Err steps.Nothing) ↔ ((facing turn d.recorded).past ≡ [])) → (r ≡ Err steps.Nothing → (s ≡ d.state) × (q ≡ d.recorded)) → IfOk r (λ n. turned_on over turn d.state d.recorded ≡ record { steps = n; fault = None; state = s; recorded = q })
+    → ((f : EditError) → r ≡ Err (steps.Edit f) → turned_on over turn d.state d.recorded ≡ record { steps = turn_size turn d.recorded; fault = Some f; state = s; recorded = q }) → IfOk a (λ x. IsTurnTold turn r (with_recorded (with_state d s) q) (text x) e)
+    → IfOk a (λ x. IsAnswered (turned_group by_parts turn y) (text x) e)
+group_answered a text turns.Back d y e s q r view nothing stays exact refused told = turn_answered a text turns.Back (λ p. p.past) (back_on over) (turn_size turns.Back d.recorded) d y e s q r view nothing stays exact refused told
+group_answered a text turns.Again d y e s q r view nothing stays exact refused told = turn_answered a text turns.Again (λ p. p.future) (again_on over) (turn_size turns.Again d.recorded) d y e s q r view nothing stays exact refused told
+
+-- and its edits are told
+pub group_told : {X E : Type 0} (a : Result X E) (text : X → List ℕ) (turn : Turn) (d y m e : Sitting Seen) (r : Result ℕ StepError) (cs ds : List Change) → d ≡ y → ((r ≡ Err steps.Nothing) ↔ ((facing turn d.recorded).past ≡ [])) → (r ≡ Err steps.Nothing → ds ≡ cs)
+    → OnOk r (ds ≡ cs ++ edit_changes (turned_edits over turn d.state d.recorded)) → ((f : EditError) → r ≡ Err (steps.Edit f) → ds ≡ cs ++ edit_changes (turned_edits over turn d.state d.recorded)) → IfOk a (λ x. IsTurnTold turn r m (text x) e)
+    → OnOk a (ds ≡ cs ++ edit_changes (turn_edits by_parts turn y))
+group_told (Err x) text turn d y m e r cs ds view nothing none done refused told = tt
+group_told (Ok x) text turn d y m e r cs ds view nothing none done refused told =
+    go r nothing none done refused told ∙ ap (λ (es : List Edit). cs ++ edit_changes es) (same turn d ∙ ap (turn_edits by_parts turn) view)
+  where
+    same : (b : Turn) (z : Sitting Seen) → turned_edits over b z.state z.recorded ≡ turn_edits by_parts b z
+    same turns.Back z = refl
+    same turns.Again z = refl
+
+    go : (p : Result ℕ StepError) → ((p ≡ Err steps.Nothing) ↔ ((facing turn d.recorded).past ≡ [])) → (p ≡ Err steps.Nothing → ds ≡ cs) → OnOk p (ds ≡ cs ++ edit_changes (turned_edits over turn d.state d.recorded))
+        → ((f : EditError) → p ≡ Err (steps.Edit f) → ds ≡ cs ++ edit_changes (turned_edits over turn d.state d.recorded)) → IsTurnTold turn p m (text x) e → ds ≡ cs ++ edit_changes (turned_edits over turn d.state d.recorded)
+    go (Ok n) nothing none done refused told = done
+    go (Err steps.Nothing) nothing none done refused told =
+        let no : edit_changes (turned_edits over turn d.state d.recorded) ≡ [] = ap (λ (xs : List Step). edit_changes (steps_edits over (group_size xs) (held_on over d.state (facing turn d.recorded)) (reverse xs))) (nothing.0 refl) in
+        none refl ∙ (sym (append-nil cs) ∙ ap (λ (xs : List Change). cs ++ xs) (sym no))
+    go (Err (steps.Edit f)) nothing none done refused told = refused f refl
+    go (Err other) nothing none done refused told = absurd told
 
 tells_on : (xs : List Step) (d : Sitting Seen) (text : ℕ → List ℕ) (t : Turned Seen) → ((if_steps xs (says nothing_text d) (turned by_parts d text t)).state).tells ≡ d.tells
 tells_on [] d text t = refl

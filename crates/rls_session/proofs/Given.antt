@@ -21,7 +21,7 @@ use Rattle.rls_session.specs.declared.orders.Side.{Side}
 use Rattle.rls_session.specs.declared.orders.Side.TheVariants.{Before, After}
 use Rattle.rls_session.specs.declared.orders.Order.{Order}
 use Rattle.rls_session.specs.declared.orders.Order.TheVariants as orders
-use Rattle.rls_session.specs.Orders.{change_at, change_by, change_of, change_parts, member_of, order_of, order_of_letter, order_of_parts, order_of_words, order_or_bad, switch_of, cursor_of, point_by, point_of, version_of}
+use Rattle.rls_session.specs.Orders.{change_at, change_by, change_of, change_parts, counts_of, member_of, send_by, send_of, order_of, order_of_letter, order_of_parts, order_of_words, order_or_bad, switch_of, cursor_of, point_by, point_of, version_of}
 use Rattle.rls_session.specs.Requests.{Cut, Does, Request, Takes, cut, cut_after, line_size}
 
 -- the line of an edit is one, the text of a change consists of characters, and a message of bytes
@@ -107,7 +107,7 @@ parts_given : (bytes word others : List ℕ) → IsGood (line_of_text bytes) →
 parts_given bytes word others g u =
     given_or (bytes_eq word (codes "e")) (change_of others) _ (change_given others u)
     (go (bytes_eq word (codes "k")) (bytes_eq word (codes "j")) (bytes_eq word (codes "p")) (bytes_eq word (codes "a")) (bytes_eq word (codes "l")) (bytes_eq word (codes "m")) (bytes_eq word (codes "s")) (bytes_eq word (codes "c"))
-    (bytes_eq word (codes "v")) (number_of others) (member_of others) (switch_of others) (place_of others))
+    (bytes_eq word (codes "v")) (number_of others) (switch_of others) (place_of others))
   where
     -- orders of which nothing is asked
     any : {A : Type 0} (order : A → Order) → ((x : A) → IsGiven (Does (order x))) → (o : Option A) → IsGiven (Does (order_or_bad order o))
@@ -118,22 +118,26 @@ parts_given bytes word others g u =
     point side None = any (λ at. orders.Point side at 0) (λ x. tt) (number_of others)
     point side (Some parts) = any (λ at. order_or_bad (orders.Point side at) (cursor_of parts.1)) (λ at. any (orders.Point side at) (λ x. tt) (cursor_of parts.1)) (number_of parts.0)
 
-    rest : (b c d v : Bool) (n m : Option ℕ) (o : Option Bool) → IsGiven (Does (cond b (order_or_bad orders.Take n) (cond c (order_or_bad orders.Send m) (cond d (order_or_bad orders.Tell o) (cond v (order_or_bad orders.Version (version_of others)) (order_or_bad orders.Edit (line_of_text bytes)))))))
-    rest true c d v n m o = any orders.Take (λ x. tt) n
-    rest false true d v n m o = any orders.Send (λ x. tt) m
-    rest false false true v n m o = any orders.Tell (λ x. tt) o
-    rest false false false true n m o = any orders.Version (λ x. tt) (version_of others)
-    rest false false false false n m o = edit_given bytes (line_of_text bytes) g
+    send : (p : Option (List ℕ × List ℕ)) → IsGiven (Does (send_by others p))
+    send None = any orders.Send (λ x. tt) (member_of others)
+    send (Some parts) = any (λ to. order_or_bad (orders.SendTold to) (counts_of parts.1)) (λ to. any (orders.SendTold to) (λ x. tt) (counts_of parts.1)) (member_of parts.0)
 
-    go : (k j p a l b c d v : Bool) (n m : Option ℕ) (o : Option Bool) (at : Option Anchor)
+    rest : (b c d v : Bool) (n : Option ℕ) (o : Option Bool) → IsGiven (Does (cond b (order_or_bad orders.Take n) (cond c (send_of others) (cond d (order_or_bad orders.Tell o) (cond v (order_or_bad orders.Version (version_of others)) (order_or_bad orders.Edit (line_of_text bytes)))))))
+    rest true c d v n o = any orders.Take (λ x. tt) n
+    rest false true d v n o = send (parts_of others)
+    rest false false true v n o = any orders.Tell (λ x. tt) o
+    rest false false false true n o = any orders.Version (λ x. tt) (version_of others)
+    rest false false false false n o = edit_given bytes (line_of_text bytes) g
+
+    go : (k j p a l b c d v : Bool) (n : Option ℕ) (o : Option Bool) (at : Option Anchor)
         → IsGiven (Does (cond k (point_of Before others) (cond j (point_of After others) (cond p (order_or_bad orders.Place (cursor_of others)) (cond a (order_or_bad orders.Spell n) (cond l (order_or_bad orders.Locate at)
-        (cond b (order_or_bad orders.Take n) (cond c (order_or_bad orders.Send m) (cond d (order_or_bad orders.Tell o) (cond v (order_or_bad orders.Version (version_of others)) (order_or_bad orders.Edit (line_of_text bytes))))))))))))
-    go true j p a l b c d v n m o at = point Before (parts_of others)
-    go false true p a l b c d v n m o at = point After (parts_of others)
-    go false false true a l b c d v n m o at = any orders.Place (λ x. tt) (cursor_of others)
-    go false false false true l b c d v n m o at = any orders.Spell (λ x. tt) n
-    go false false false false true b c d v n m o at = any orders.Locate (λ x. tt) at
-    go false false false false false b c d v n m o at = rest b c d v n m o
+        (cond b (order_or_bad orders.Take n) (cond c (send_of others) (cond d (order_or_bad orders.Tell o) (cond v (order_or_bad orders.Version (version_of others)) (order_or_bad orders.Edit (line_of_text bytes))))))))))))
+    go true j p a l b c d v n o at = point Before (parts_of others)
+    go false true p a l b c d v n o at = point After (parts_of others)
+    go false false true a l b c d v n o at = any orders.Place (λ x. tt) (cursor_of others)
+    go false false false true l b c d v n o at = any orders.Spell (λ x. tt) n
+    go false false false false true b c d v n o at = any orders.Locate (λ x. tt) at
+    go false false false false false b c d v n o at = rest b c d v n o
 
 order_given : (bytes : List ℕ) → IsGiven (Does (order_of bytes))
 unfolding order_of

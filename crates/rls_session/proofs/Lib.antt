@@ -18,6 +18,7 @@ pub mod Stages
 pub mod Called
 pub mod Closing
 pub mod Entries
+mod Counts
 pub mod Given
 pub mod Steps
 pub mod AlikeSittings

@@ -16,10 +16,10 @@ use Rattle.rls_places.specs.Words.{place_of}
 use Rattle.rls_session.specs.declared.orders.Side.{Side}
 use Rattle.rls_session.specs.declared.orders.Side.TheVariants.{Before, After}
 use Rattle.rls_session.specs.declared.orders.Order.{Order}
-use Rattle.rls_session.specs.declared.orders.Order.TheVariants.{Edit, Place, Spell, Locate, Point, Take, Send, Store, Tell, Version, Quit, Bad}
+use Rattle.rls_session.specs.declared.orders.Order.TheVariants.{Edit, Place, Spell, Locate, Point, Take, Send, SendTold, Store, Tell, Version, Quit, Bad}
 use Rattle.rls_session.specs.Answering.{HasAll, LacksPart}
 use Rattle.rls_session.specs.Courses.{Course, go_on, course}
-use Rattle.rls_session.specs.Orders.{change_at, change_by, change_of, change_parts, order_or_bad, member_of, order_of_letter, order_of_parts, order_of_words, order_of, switch_of, cursor_of, point_by, version_of}
+use Rattle.rls_session.specs.Orders.{change_at, change_by, change_of, change_parts, counts_of, order_or_bad, member_of, send_by, order_of_letter, order_of_parts, order_of_words, order_of, switch_of, cursor_of, point_by, version_of}
 use Rattle.rls_session.specs.Requests.{Request, Does, Takes, Cut, line_size, cut_after, with_line, cut}
 use Rattle.rls_session.proofs.Courses.{Answers, IsPlain, course_begins}
 use Rattle.rls_session.proofs.Positions.{clear_then, in_front, position_front}
@@ -85,11 +85,17 @@ take_halts None (Quits e) = cc
 take_halts (Some x) (Stores e) = cc
 take_halts (Some x) (Quits e) = cc
 
-send_halts : (o : Option ℕ) → IsHalt (order_or_bad Send o) → ⊥
-send_halts None (Stores e) = cc
-send_halts None (Quits e) = cc
-send_halts (Some x) (Stores e) = cc
-send_halts (Some x) (Quits e) = cc
+send_halts : (to : ℕ) → IsHalt (Send to) → ⊥
+send_halts to (Stores e) = cc
+send_halts to (Quits e) = cc
+
+told_halts : (to : ℕ) (told : List ℕ) → IsHalt (SendTold to told) → ⊥
+told_halts to told (Stores e) = cc
+told_halts to told (Quits e) = cc
+
+sent_halts : (others : List ℕ) (p : Option (List ℕ × List ℕ)) → IsHalt (send_by others p) → ⊥
+sent_halts others None = any_halts Send send_halts (member_of others)
+sent_halts others (Some parts) = any_halts (λ to. order_or_bad (SendTold to) (counts_of parts.1)) (λ to. any_halts (SendTold to) (told_halts to) (counts_of parts.1)) (member_of parts.0)
 
 tell_halts : (o : Option Bool) → IsHalt (order_or_bad Tell o) → ⊥
 tell_halts None (Stores e) = cc
@@ -124,7 +130,7 @@ change_halts others = go (parts_of others)
 parts_halt : (bs word others : List ℕ) → IsHalt (order_of_parts bs word others) → ⊥
 parts_halt bs word others h =
     skips (bytes_eq word (codes "e")) _ _ ⊥ (change_halts others) (skips (bytes_eq word (codes "k")) _ _ ⊥ (point_halts Before others (parts_of others)) (skips (bytes_eq word (codes "j")) _ _ ⊥ (point_halts After others (parts_of others)) (skips (bytes_eq word (codes "p")) _ _ ⊥ (any_halts Place place_halts (cursor_of others)) (
-    skips (bytes_eq word (codes "a")) _ _ ⊥ (any_halts Spell spell_halts (number_of others)) (skips (bytes_eq word (codes "l")) _ _ ⊥ (any_halts Locate locate_halts (place_of others)) (skips (bytes_eq word (codes "m")) _ _ ⊥ (take_halts (number_of others)) (skips (bytes_eq word (codes "s")) _ _ ⊥ (send_halts (member_of others)) (skips (bytes_eq word (codes "c")) _ _ ⊥ (tell_halts (switch_of others)) (
+    skips (bytes_eq word (codes "a")) _ _ ⊥ (any_halts Spell spell_halts (number_of others)) (skips (bytes_eq word (codes "l")) _ _ ⊥ (any_halts Locate locate_halts (place_of others)) (skips (bytes_eq word (codes "m")) _ _ ⊥ (take_halts (number_of others)) (skips (bytes_eq word (codes "s")) _ _ ⊥ (sent_halts others (parts_of others)) (skips (bytes_eq word (codes "c")) _ _ ⊥ (tell_halts (switch_of others)) (
     skips (bytes_eq word (codes "v")) _ _ ⊥ (any_halts Version version_halts (version_of others)) (edit_halts (line_of_text bs))))))))))) h
 
 halt_letter : (bs : List ℕ) → IsHalt (order_of bs) → length bs ≡ 1

@@ -73,6 +73,7 @@ sent_after d (orders.Take n) rest f = go (nat_le n (length rest))
     go true = tt
     go false = tt
 sent_after d (orders.Send to) rest f = f
+sent_after d (orders.SendTold to told) rest f = f
 sent_after d order rest f = tt
 
 module _ (first d : Seat Seen) (input : Option (List ℕ)) (a b : IntakeSeen) (x y old new : Option (List ℕ)) (way : OnWay (respond by_parts) first input d a x old new) (sent : AreSent first input d a x) where

@@ -131,6 +131,7 @@ done_writable d (orders.Locate place) w = w
 done_writable d orders.Text w = w
 done_writable d (orders.Take len) w = w
 done_writable d (orders.Send to) w = w
+done_writable d (orders.SendTold to told) w = w
 done_writable d orders.Stat w = w
 done_writable d (orders.Version n) w = w
 done_writable d orders.Store w = w

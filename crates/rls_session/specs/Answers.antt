@@ -1,4 +1,5 @@
 -- What a session answers to a request, and what it changes.
+-- Why: docs/DECISIONS.md, 84.
 use Rattle.std.specs.Prelude.{ℕ, Bool, true, false, ◌&&◌, ◌==◌, ◌++◌, List, [], ◌∷◌, length, map, encode_utf8_all, codes, nat_lt, Option, Some, None, option_map, Result, Ok, Err, if◌then◌else◌}
 use Rattle.rls_codec.specs.Reading.{message_of}
 use Rattle.rls_ops.specs.declared.message.Message.{Message}
@@ -24,8 +25,8 @@ use Rattle.rls_steps.specs.Grounds.{Turned, closed}
 use Rattle.rls_steps.specs.Groups.{group_count}
 use Rattle.rls_anchor.specs.declared.anchor.Anchor.{Anchor}
 use Rattle.rls_session.specs.declared.desk.TheConstants.{KEPT_ENTRIES}
-use Rattle.rls_session.specs.declared.desk.Turn.{Turn}
-use Rattle.rls_session.specs.declared.desk.Turn.TheVariants as turns
+use Rattle.rls_steps.specs.declared.steps.Turn.{Turn}
+use Rattle.rls_steps.specs.declared.steps.Turn.TheVariants as turns
 use Rattle.rls_session.specs.declared.cursors.Cursor.{Cursor}
 use Rattle.rls_session.specs.Cursors.{cursor_in, cursors_moved, cursors_with, moved}
 use Rattle.rls_session.specs.declared.orders.Side.{Side}
@@ -79,6 +80,8 @@ pub record Kind (X : Type 0) : Type 0 where
   -- what comes of a message, and the message for a member
   pub taken : X → Message → Stage X
   pub message : X → ℕ → Message
+  -- and the one for a member that told these counts
+  pub message_told : X → ℕ → List ℕ → Message
   -- the numbers, as `stat` prints them
   pub stat : X → List ℕ
   -- an entry, an anchor, and what is recorded, taken to the greatest epoch, and the state without what every member has
@@ -275,6 +278,13 @@ message_changes K s (Err at) = []
 abbrev pub sent : {X : Type 0} → Kind X → X → ℕ → List ℕ
 sent K s to = if nat_lt to (K.members s) then bytes_text (codes "message") (message_bytes (K.message s to)) else failed_text (NotMember to)
 
+-- the one for a member that told these counts, if it is one count for each member
+abbrev pub sent_told_of : {X : Type 0} → Kind X → X → ℕ → List ℕ → List ℕ
+sent_told_of K s to told = if nat_lt to (K.members s) then bytes_text (codes "message") (message_bytes (K.message_told s to told)) else failed_text (NotMember to)
+
+abbrev pub sent_told : {X : Type 0} → Kind X → X → ℕ → List ℕ → List ℕ
+sent_told K s to told = if length told == K.members s then sent_told_of K s to told else bad_text
+
 -- ---- the text
 
 abbrev pub text_reply : {X : Type 0} → Kind X → X → List ℕ
@@ -315,6 +325,7 @@ done K d (orders.Locate place) = says (located_text (K.located d.state place)) d
 done K d orders.Text = says (text_reply K d.state) d
 done K d (orders.Take len) = says [] d
 done K d (orders.Send to) = says (sent K d.state to) d
+done K d (orders.SendTold to told) = says (sent_told K d.state to told) d
 done K d orders.Stat = says (stat_reply K d.state) d
 done K d (orders.Version n) = says (version_text n) d
 done K d orders.Store = says [] d

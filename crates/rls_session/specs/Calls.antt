@@ -1,4 +1,5 @@
 -- Which calls of the keeper a session makes, in which order, and the status with which it ends then.
+-- Why: docs/DECISIONS.md, 175.
 use Rattle.std.specs.Prelude.{◌≡◌, ◌≢◌, ◌⊎◌, ◌<◌, ◌++◌, ℕ, Bool, true, false, List, [], ◌∷◌, length, Option, Some, None, IfSome, OnOk, Result, Ok, Err}
 use Rattle.rls_report.specs.declared.failures.CommandError.{CommandError}
 use Rattle.rls_report.specs.declared.failures.Failure.{Failure}

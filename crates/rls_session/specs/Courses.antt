@@ -1,4 +1,5 @@
 -- A session over a whole input, from store to store, whatever answers its requests.
+-- Why: docs/DECISIONS.md, 128.
 use Rattle.std.specs.Prelude.{ℕ, ◌+◌, ◌-◌, suc, zero, Bool, true, false, List, [], ◌∷◌, ◌++◌, length, drop, map, if◌then◌else◌}
 use Rattle.rls_session.specs.declared.orders.Order.TheVariants.{Quit, Store}
 use Rattle.rls_session.specs.Replies.{saved_text}

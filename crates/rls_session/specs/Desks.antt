@@ -17,7 +17,7 @@ use Rattle.rls_session.specs.Cursors.{AreAnchored}
 use Rattle.rls_stages.specs.Lines.{line_fault}
 use Rattle.rls_steps.specs.declared.steps.StepError.{StepError}
 use Rattle.rls_steps.specs.declared.steps.StepError.TheVariants as steps
-use Rattle.rls_session.specs.declared.desk.Turn.{Turn}
+use Rattle.rls_steps.specs.declared.steps.Turn.{Turn}
 use Rattle.rls_session.specs.Answers.{Sitting, turn_text, with_recorded}
 use Rattle.rls_session.specs.Replies.{nothing_text, refused_text}
 use Rattle.rls_session.specs.Sessions.{by_parts}

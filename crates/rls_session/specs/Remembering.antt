@@ -1,4 +1,5 @@
 -- The texts to which `z` and `y` lead, as long as nobody else edits: those of an editor that keeps a copy of the text before each group.
+-- Why: docs/DECISIONS.md, 249.
 use Rattle.std.specs.Prelude.{◌≡◌, ◌≤◌, ◌+◌, false, length, true, ℕ, List, [], ◌∷◌, reverse, Option, Some, None, Result, Ok, Err, if◌then◌else◌}
 use Rattle.rls_ident.specs.declared.epoch_name.EpochName.{EpochName}
 use Rattle.rls_ident.specs.declared.epoch_name.EpochName.TheVariants.{Origin}

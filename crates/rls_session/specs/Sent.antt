@@ -1,10 +1,10 @@
 -- The messages that a session answers.
-use Rattle.std.specs.Prelude.{◌<◌, ℕ, List, [], ◌∷◌, take}
+use Rattle.std.specs.Prelude.{◌≡◌, ◌<◌, ℕ, List, [], ◌∷◌, length, take}
 use Rattle.rls_ops.specs.Spelling.{message_bytes}
 use Rattle.rls_codec.specs.CodecLaws.{IsMessage}
-use Rattle.rls_seen.specs.Messages.{message_over}
+use Rattle.rls_seen.specs.Messages.{message_over, message_told_over}
 use Rattle.rls_seen.specs.Seen.{Seen, members}
-use Rattle.rls_session.specs.declared.orders.Order.TheVariants.{Send}
+use Rattle.rls_session.specs.declared.orders.Order.TheVariants.{Send, SendTold}
 use Rattle.rls_session.specs.Answers.{Sitting}
 use Rattle.rls_session.specs.Courses.{Stretch, holds}
 use Rattle.rls_session.specs.Requests.{Request, Does}
@@ -15,9 +15,14 @@ use Rattle.rls_session.specs.Sessions.{by_parts}
 abbrev pub CanSend : Seen → ℕ → Type 0
 CanSend s to = to < members s → IsMessage (message_bytes (message_over s to)) (message_over s to)
 
+-- and so are those for one that told these counts
+abbrev pub CanSendTold : Seen → ℕ → List ℕ → Type 0
+CanSendTold s to told = length told ≡ members s → to < members s → IsMessage (message_bytes (message_told_over s to told)) (message_told_over s to told)
+
 -- what is answered to a request for a message is one
 abbrev pub SendsMessage : Sitting Seen → Request → Type 0
 SendsMessage d (Does (Send to)) = CanSend d.state to
+SendsMessage d (Does (SendTold to told)) = CanSendTold d.state to told
 SendsMessage d request = Unit {0}
 
 -- once the draft is made

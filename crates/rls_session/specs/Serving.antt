@@ -1,4 +1,5 @@
 -- How a session ends, in one relation: of its stages, and of the whole with its status.
+-- Why: docs/DECISIONS.md, 122.
 use Rattle.std.specs.Prelude.{◌≡◌, ◌≢◌, ◌<◌, ◌≤◌, ℕ, suc, Bool, true, IsTrue, IsFalse, List, [], ◌∷◌, length, drop, Option, Some, None, option_map, IfSome, IfErr, OnOk, Result, Ok, Err}
 use Rattle.rls_io.specs.Device.{Keeps, Rose}
 use Rattle.rls_io.specs.Device as device

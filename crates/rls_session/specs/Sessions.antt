@@ -1,15 +1,16 @@
 -- Sessions over what a replica consists of, and over a history and what waits beside it.
+-- Why: docs/DECISIONS.md, 128.
 use Rattle.std.specs.Prelude.{◌+◌, List, ℕ, slice_get}
 use Rattle.rls_model.specs.Document.{idents}
 use Rattle.rls_model.specs.Editing.{made, next_seq}
 use Rattle.rls_model.specs.Epochs.{greatest}
 use Rattle.rls_model.specs.History.{group_of, members_of}
 use Rattle.rls_model.specs.Receiving.{State, accept, release_all}
-use Rattle.rls_model.specs.Taking.{message_for, take_message}
+use Rattle.rls_model.specs.Taking.{message_for, message_told, take_message}
 use Rattle.rls_seen.specs.Edits.{edit_fault_over, made_over}
 use Rattle.rls_seen.specs.Edits as edits
 use Rattle.rls_seen.specs.Kept.{dropped}
-use Rattle.rls_seen.specs.Messages.{message_over, taken_over}
+use Rattle.rls_seen.specs.Messages.{message_over, message_told_over, taken_over}
 use Rattle.rls_seen.specs.Over.{released_all}
 use Rattle.rls_seen.specs.Seen.{Seen, members, own_count, text_over}
 use Rattle.rls_stages.specs.Lines.{fault_in, text_in}
@@ -61,6 +62,7 @@ by_parts = record {
   members = members;
   taken = taken_over;
   message = message_over;
+  message_told = message_told_over;
   stat = stat_over;
   settled = settled_over;
   settled_anchor = anchors.settled_over;
@@ -111,6 +113,7 @@ by_history = record {
   members = λ t. members_of t.history;
   taken = take_message;
   message = λ t to. message_for t.history to;
+  message_told = λ t to told. message_told t.history to told;
   stat = stat_of;
   settled = λ t entry. settled t.history entry;
   settled_anchor = λ t a. anchors.settled t.history a;

@@ -1,4 +1,5 @@
 //! The lines that tell what changed in the text.
+//! Why: docs/DECISIONS.md, 132.
 
 ghost use Rattle.std.specs.Prelude.{◌≡◌, ◌++◌, ◌∷◌, [], Some, IfOk, OnOk, encode_utf8_all};
 ghost use Rattle.std.specs.String.{string_bytes};

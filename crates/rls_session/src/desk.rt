@@ -1,4 +1,5 @@
 //! What a session works on.
+//! Why: docs/DECISIONS.md, 146, 163; CHOICES.md, 131.
 
 ghost use Rattle.std.specs.Prelude.{◌≡◌, ◌+◌, ◌++◌, option_map, None, IfOk, OnOk, IsTrue};
 ghost use Rattle.rls_ident.specs.declared.epoch_name.EpochName.{EpochName};
@@ -40,7 +41,7 @@ use rls_replica::{PastError, Replica};
 use rls_report::{CommandError, LineFault};
 use rls_script::Line;
 use rls_stages::{LineError, edit_of};
-use rls_steps::{StepError, Steps};
+use rls_steps::{StepError, Steps, Turn};
 use rls_sync::TakeBytesError;
 use rls_undo::Undo;
 use std::alloc::{AllocError, Global};
@@ -54,13 +55,6 @@ pub const KEPT_STEPS: usize = 10_000;
 
 /// How many characters these steps put in or cut out, at most.
 pub const KEPT_CHARACTERS: u64 = 4_194_304;
-
-/// Which group of steps goes: the last one back, or the one that was taken back last again.
-#[derive(Clone, Copy)]
-pub enum Turn {
-    Back,
-    Again,
-}
 
 /// What a session works on: the replica, what undoes its edits, the cursors, what is recorded of its steps, and whether changes are told.
 #[derive(Drop)]
@@ -122,6 +116,9 @@ impl Desk {
             Order::Locate { place } => places::locate(alloc, &self.replica, &place),
             Order::Text => showing::text(alloc, &self.replica),
             Order::Send { to } => showing::message(alloc, &self.replica, to),
+            Order::SendTold { to, told } => {
+                showing::message_told(alloc, &self.replica, to, &told)
+            }
             Order::Stat => showing::stat(alloc, &self.replica),
             Order::Tell { on } => self.tell_from_now(alloc, on),
             Order::Version { number } => replies::version(alloc, number),
@@ -268,16 +265,8 @@ impl Desk {
         ensures answered { IfOk result (λ reply. IsAnswered (turned_group by_parts turn self.old) reply.items self.new) }
         ensures changes { OnOk result (changes.new.items ≡ changes.old.items ++ edit_changes (turn_edits by_parts turn self.old)) }
     {
-        match turn {
-            Turn::Back => {
-                let done = self.steps.undo(&mut self.replica, changes);
-                self.tell_turn(alloc, Turn::Back, done)
-            }
-            Turn::Again => {
-                let done = self.steps.redo(&mut self.replica, changes);
-                self.tell_turn(alloc, Turn::Again, done)
-            }
-        }
+        let done = self.steps.turn(&mut self.replica, turn, changes);
+        self.tell_turn(alloc, turn, done)
     }
 
     // Keeps what is recorded within bounds after a group was taken back or done again, and tells how many steps that were.

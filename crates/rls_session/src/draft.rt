@@ -1,4 +1,5 @@
 //! What an editor changed and is no operation yet.
+//! Why: docs/DECISIONS.md, 226.
 
 ghost use Rattle.std.specs.Prelude.{◌≡◌, ◌+◌, ◌-◌, ◌≤◌, ◌<◌, ◌^◌, length, IfOk, IsTrue};
 ghost use Rattle.rls_session.specs.Drafts.{no_draft, is_none, draft_of, joins, joined, merged};

@@ -1,4 +1,5 @@
 //! An editor's line protocol over a replica file.
+//! Why: CHOICES.md, 85, 107, 130, 133, 134, 147, 148.
 #![tactic(auto)]
 
 mod answering;

@@ -1,4 +1,5 @@
 //! How a desk answers its editor, whose changes become operations when another request needs them.
+//! Why: docs/DECISIONS.md, 226, 227.
 
 ghost use Rattle.std.specs.Prelude.{◌≡◌, ◌<◌, [], ◌∷◌, if◌then◌else◌, length, Option, Some, None, IfOk, IfSome, OnOk, IfErr, IsFalse};
 ghost use Rattle.rls_file.specs.Stored.{AreWritable};

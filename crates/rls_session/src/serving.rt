@@ -1,4 +1,5 @@
 //! A session over the kept file.
+//! Why: docs/DECISIONS.md, 129.
 
 ghost use Rattle.std.specs.Prelude.{◌≡◌, ◌≤◌, ℕ, List, length, false, Some, Ok, IfSome, OnOk};
 ghost use Rattle.rls_io.specs.Device.{LoadsWith, Rose};

@@ -1,4 +1,5 @@
 //! What is done at a replica, with what it changes in the text, if that is told.
+//! Why: docs/DECISIONS.md, 132.
 
 ghost use Rattle.std.specs.Prelude.{◌≡◌, ◌++◌, ◌↔◌, [], ℕ, Bool, List, Some, None, Ok, Err, IfOk, OnOk, OnErr, IsErrOf, IsTrue, IsFalse};
 ghost use Rattle.rls_ident.specs.declared.epoch_name.EpochName.{EpochName};

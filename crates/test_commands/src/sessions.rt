@@ -138,7 +138,9 @@ const ROWS: &[&str] = &[
     "a 0\na 3\na 6\nl beginning\nl after:origin:2147483647.0.1.2\nl before:origin:2147483647.0.1.2\nl after:origin:2147483647.9.9.9\nl after:0.9:1.1.1.1\nl after:origin:2147483647.0.1.2 \nl\na x\n | anchor beginning\nanchor after:origin:2147483647.0.1.2\nno range 6 5\ncursor 0\ncursor 3\ncursor 2\ncursor 5\nno epoch\nbad\nbad\nbad\nsaved\n | same",
     "r\na 3\nl after:0.2:2147483647.0.2.2\nl after:origin:2147483647.0.1.2\ni 0 A\nl after:origin:2147483647.0.1.2\n | ok 2\nanchor after:0.2:2147483647.0.2.2\ncursor 3\ncursor 3\nok 3\ncursor 4\nsaved\n | other",
     // The versions of the protocol.
-    "v 3\nv 1\nv 2\nv 4\nv 0\nv x\nv \nv\n | version 3\nversion 1\nversion 2\nbad\nbad\nbad\nbad\nversion 2\nsaved\n | same",
+    "v 4\nv 3\nv 1\nv 2\nv 5\nv 0\nv x\nv \nv\n | version 4\nversion 3\nversion 1\nversion 2\nbad\nbad\nbad\nbad\nversion 2\nsaved\n | same",
+    // Messages by told counts: one for each member, each a number, with one space between two.
+    "s 1 0\ns 1 0 0 0\ns 2 0 0\ns 2 0\ns 1 0 0 \ns 1  0 0\ns 1 0 x\ns 1 0 4294967296\ns x 0 0\n | bad\nbad\nno not a member 2\nbad\nbad\nbad\nbad\nbad\nbad\nsaved\n | same",
     // Changes of an editor: one, at the end without a line feed; and what comes to nothing.
     "e 4 1 X\nt\n | ok\ntext 5\nhellX\nsaved\n | other",
     "e 0 1 J | ok\nsaved\n | other",

@@ -1,4 +1,5 @@
 //! How what a session goes back to is settled, and what every member has is dropped.
+//! Why: docs/DECISIONS.md, 129.
 
 ghost use Rattle.std.specs.Prelude.{◌≡◌, map, OnOk};
 ghost use Rattle.rls_seen.specs.Kept.{dropped};

@@ -1,25 +1,21 @@
-use Rattle.rls_steps.specs.Grounds.{over, again_on, back_on}
-use Rattle.rls_steps.specs.Groups.{group_size}
-use Rattle.rls_session.specs.declared.desk.Turn.TheVariants as turns
 use Rattle.rls_session.specs.Desks.{sitting_of}
-use Rattle.rls_session.proofs.Answered.{turn_answered}
+use Rattle.rls_session.proofs.Answered.{group_answered, group_told}
 use Rattle.rls_session.proofs.Whole.{whole_on}
 use Rattle.rls_session.proofs.desk.Desk.turn_group.Goals as goal
 
 pub invariant_of-self : goal.invariant_of-self
-invariant_of-self c = let s = c.self.inside in whole_on s.replica c.undo-done.new.replica s.undo s.cursors c.undo-done.ensures.names c.self.invariant
+invariant_of-self c = let s = c.self.inside in whole_on s.replica c.turn-done.new.replica s.undo s.cursors c.turn-done.ensures.names c.self.invariant
 
-pub returns-in-Back-clause-answered : goal.returns-in-Back-clause-answered
-returns-in-Back-clause-answered c = rw c.in-Back.is (
+pub returns-clause-answered : goal.returns-clause-answered
+returns-clause-answered c =
     let s = c.self.inside in
-    turn_answered c.tell_turn.result (λ reply. reply.items) turns.Back (λ r. r.past) (back_on over) (group_size s.steps.past) (sitting_of s.replica s.undo s.cursors s.steps s.tells) _ _ c.undo-done.new.replica c.undo-done.new.self _ c.self.view_is
-    c.undo-done.ensures.nothing c.undo-done.ensures.stays c.undo-done.ensures.exact c.undo-done.ensures.refused c.tell_turn.ensures.told)
+    let t = c.turn-done.ensures in
+    group_answered c.tell_turn.result (λ reply. reply.items) c.args.turn (sitting_of s.replica s.undo s.cursors s.steps s.tells) _ _ c.turn-done.new.replica c.turn-done.new.self _ c.self.view_is
+    t.nothing (λ h. let d = t.stays h in (d.0, d.1)) t.exact t.refused c.tell_turn.ensures.told
 
-pub invariant_of-self-in-Again : goal.invariant_of-self-in-Again
-invariant_of-self-in-Again c = let s = c.self-in-Again.inside in whole_on s.replica c.redo-done.new.replica s.undo s.cursors c.redo-done.ensures.names c.self-in-Again.invariant
-
-pub returns-in-Again-clause-answered : goal.returns-in-Again-clause-answered
-returns-in-Again-clause-answered c = rw c.in-Again.is (
-    let s = c.self-in-Again.inside in
-    turn_answered c.tell_turn-in-Again.result (λ reply. reply.items) turns.Again (λ r. r.future) (again_on over) (group_size s.steps.future) (sitting_of s.replica s.undo s.cursors s.steps s.tells) _ _ c.redo-done.new.replica c.redo-done.new.self _ c.self-in-Again.view_is
-    c.redo-done.ensures.nothing c.redo-done.ensures.stays c.redo-done.ensures.exact c.redo-done.ensures.refused c.tell_turn-in-Again.ensures.told)
+pub returns-clause-changes : goal.returns-clause-changes
+returns-clause-changes c =
+    let s = c.self.inside in
+    let t = c.turn-done.ensures in
+    group_told c.tell_turn.result (λ reply. reply.items) c.args.turn (sitting_of s.replica s.undo s.cursors s.steps s.tells) _ _ _ _ c.args.changes.now.items c.turn-done.new.changes.items c.self.view_is
+    t.nothing (λ h. (t.stays h).2) t.edits t.refused_edits c.tell_turn.ensures.told
