@@ -1,4 +1,5 @@
 -- Where a cursor stands that comes from another replica.
+-- Why: docs/DECISIONS.md, 151.
 use Rattle.std.specs.Prelude.{ℕ, Bool, true, List, Option, Some, None, if◌then◌else◌}
 use Rattle.std.specs.List.{list_any}
 use Rattle.rls_ident.specs.declared.epoch_name.EpochName.{EpochName}

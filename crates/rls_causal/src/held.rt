@@ -1,4 +1,5 @@
 //! Waiting operations.
+//! Why: CHOICES.md, 49, 82, 102.
 
 ghost use Rattle.std.specs.Map.Iter.{ShowsInOrder, deref};
 ghost use Rattle.std.specs.Option.{option_map};

@@ -1,4 +1,5 @@
 //! The waiting operations of one author.
+//! Why: CHOICES.md, 81.
 
 ghost use Rattle.std.specs.List.{list_all};
 ghost use Rattle.std.specs.Map.Iter.{ShowsInOrder, deref};

@@ -1,4 +1,5 @@
 -- What changes in a text: changes that are played one after another, and those of an operation.
+-- Why: docs/DECISIONS.md, 119.
 use Rattle.std.specs.Prelude.{ℕ, suc, ◌+◌, List, [], ◌∷◌, ◌++◌, ◌==◌, length, map, take, drop, zip, if◌then◌else◌}
 use Rattle.rls_ident.specs.declared.tuple.Tuple.{Tuple}
 use Rattle.rls_ident.specs.declared.epoch_name.EpochName.{EpochName}

@@ -1,4 +1,5 @@
 //! What own edits change, and an undo.
+//! Why: docs/DECISIONS.md, 127.
 
 ghost use Rattle.std.specs.Prelude.{◌≡◌, ◌+◌, ◌-◌, ◌++◌, ◌∷◌, ◌↔◌, ◌≤◌, [], ℕ, List, length, take, Some, None, IfOk, IfErr, OnOk, OnErr, IsErrOf, IsFalse};
 ghost use Rattle.rls_ident.specs.declared.epoch_name.EpochName.{EpochName};

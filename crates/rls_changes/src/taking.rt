@@ -1,4 +1,5 @@
 //! Messages that are taken, and releases until none is ready, with what they change.
+//! Why: docs/DECISIONS.md, 120.
 
 ghost use Rattle.std.specs.Prelude.{◌≡◌, ◌+◌, ◌<◌, ◌≤◌, ◌↔◌, ◌∷◌, ◌++◌, [], List, ℕ, length, Some, None, is_some, IfOk, OnOk, OnErr, IsErrOf};
 ghost use Rattle.rls_ops.specs.declared.op.Op.{Op};

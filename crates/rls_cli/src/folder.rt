@@ -1,4 +1,5 @@
 //! Where the replica file of the current folder is kept.
+//! Why: CHOICES.md, 68, 69.
 
 ghost use Rattle.std.specs.Prelude.{◌≡◌, None};
 ghost use Rattle.rls_io.specs.Folder.{keeper_faults};
@@ -6,7 +7,7 @@ ghost use Rattle.rls_journal.specs.Files.{disk_faults};
 ghost use Rattle.rls_journal.specs.Keeper.{disk_of};
 ghost use Rattle.rls_cli.specs.Folder.{LoadGives, StoreGives, faults_of};
 
-use rls_io::{FileKeeper, Found, Keeper, LoadError, StoreError};
+use rls_io::{CurrentFolder, FileKeeper, Found, Keeper, LoadError, StoreError};
 use rls_journal::{DiskKeeper, FileDisk};
 use std::alloc::Global;
 use std::fs;
@@ -31,7 +32,7 @@ pub enum FolderKeeper<A, B> {
 }
 
 /// The keeper that the program uses.
-pub type ReplicaKeeper<R> = FolderKeeper<FileKeeper<R>, DiskKeeper<FileDisk<R>>>;
+pub type ReplicaKeeper<R> = FolderKeeper<FileKeeper<CurrentFolder<R>>, DiskKeeper<FileDisk<R>>>;
 
 /// The keeper of the file `replica.rls` if the folder has it, and otherwise of the file in two slots. If the system doesn't tell whether
 /// the folder has it, the keeper fails at each call. It makes and changes no file.
@@ -40,7 +41,7 @@ pub fn folder_keeper<R: Files + Drop>(rt: R) -> ReplicaKeeper<R>
 {
     match fs::exists(&rt, "replica.rls") {
         Ok(true) => FolderKeeper::File {
-            keeper: FileKeeper::new(rt),
+            keeper: FileKeeper::new(CurrentFolder::new(rt)),
         },
         Ok(false) => FolderKeeper::Disk {
             keeper: DiskKeeper::new(FileDisk::new(rt)),

@@ -1,4 +1,5 @@
 //! The choice between a session and a command.
+//! Why: CHOICES.md, 182.
 
 ghost use Rattle.std.specs.Prelude.{◌≡◌, None, map, string_bytes, IfOk, IsErr, IsFalse};
 ghost use Rattle.rls_io.specs.Device.{LoadsWith};

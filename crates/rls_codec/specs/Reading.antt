@@ -1,5 +1,6 @@
 -- Reading bytes from left to right. A fault is the number of bytes that are left at the first byte of the first field
 -- that is cut off or breaks its rule. A rule on a run or an operation as a whole has its first byte.
+-- Why: docs/DECISIONS.md, 22.
 use Rattle.std.specs.Prelude.{ℕ, ℤ, pos, zero, suc, Bool, ◌&&◌, List, [], ◌∷◌, ◌++◌, ◌+◌, ◌-◌, ◌+ℤ◌, length, take, drop, chars, codes, Option, Some, None, Result, Ok, Err, nat_lt, nat_le, ◌==◌, bytes_eq, if◌then◌else◌}
 use Rattle.std.specs.Int.{Width, w32, w64, byte_len, from_be_bytes, cast_signed}
 use Rattle.std.specs.Int.RustNames.{int_le}

@@ -2,6 +2,7 @@
 //!
 //! Each call appends the bytes of its part. If memory runs out, the bytes that stood there before still stand in
 //! front, and some of the part's own may follow them.
+//! Why: CHOICES.md, 204, 213, 225.
 
 ghost use Rattle.std.specs.Prelude.{◌≡◌, ◌<◌, ◌≤◌, ◌+◌, ◌^◌, ◌++◌, [], ◌∷◌, length, take, drop, All, IsTrue, OnOk, encode_utf8, encode_utf8_all};
 ghost use Rattle.std.specs.List.{flat_map};

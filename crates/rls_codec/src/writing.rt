@@ -1,4 +1,5 @@
 //! Operations and messages, written.
+//! Why: CHOICES.md, 51.
 
 ghost use Rattle.std.specs.Prelude.{◌≡◌, ◌<◌, ◌≤◌, ◌^◌, ◌++◌, [], ◌∷◌, length, codes, All, IfOk, OnOk, OnErr};
 ghost use Rattle.std.specs.List.{flat_map};

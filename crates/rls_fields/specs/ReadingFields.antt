@@ -1,4 +1,5 @@
 -- Reading the parts of a snapshot, field by field.
+-- Why: docs/DECISIONS.md, 22.
 use Rattle.std.specs.Prelude.{ℕ, ℤ, pos, zero, suc, Bool, true, ◌&&◌, List, [], ◌++◌, ◌-◌, ◌==◌, length, Option, Some, None, Ok, nat_lt, if◌then◌else◌}
 use Rattle.std.specs.Int.{w32}
 use Rattle.rls_ident.specs.declared.tuple.Tuple.{Tuple}

@@ -1,6 +1,7 @@
 //! The fields of a snapshot file: the parts of a replica, read from bytes, and what a replica keeps, written as such.
 //!
 //! Each call that writes appends the bytes of its part. Where memory runs out, some of them may stand there.
+//! Why: CHOICES.md, 59, 63.
 #![tactic(auto)]
 
 mod lists;

@@ -1,4 +1,5 @@
 //! A snapshot after its head.
+//! Why: CHOICES.md, 205.
 
 ghost use Rattle.std.specs.Prelude.{◌<◌};
 ghost use Rattle.rls_codec.specs.Gives.{Gives};

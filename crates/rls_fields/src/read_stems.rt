@@ -1,4 +1,5 @@
 //! Stems, by author.
+//! Why: CHOICES.md, 60.
 
 ghost use Rattle.std.specs.Prelude.{None};
 ghost use Rattle.rls_codec.specs.Gives.{Gives};

@@ -11,7 +11,7 @@ use Rattle.rls_model.specs.EditRun.{Done, run_lines}
 use Rattle.rls_model.specs.History.{Fresh, members_of}
 use Rattle.rls_model.specs.Legal.{AreNumbers}
 use Rattle.rls_model.specs.Receiving.{State}
-use Rattle.rls_model.specs.Taking.{Progress, message_for, take_message}
+use Rattle.rls_model.specs.Taking.{Progress, message_for, message_told, take_message}
 use Rattle.rls_model.specs.WellFormed.{IsEdit}
 use Rattle.rls_seen.specs.Kept.{parts_over}
 use Rattle.rls_seen.specs.Sane.{IsSane}
@@ -39,6 +39,10 @@ TakenIsStorable = (t : State) (bytes : List ℕ) (m : Message) → IsMessage byt
 -- its message for a member has a spelling
 abbrev pub SentIsMessage : Type 0
 SentIsMessage = (t : State) (to : ℕ) → IsStorable t → IsMessage (message_bytes (message_for t.history to)) (message_for t.history to)
+
+-- and so has the one for a member that told these counts
+abbrev pub ToldIsMessage : Type 0
+ToldIsMessage = (t : State) (to : ℕ) (told : List ℕ) → IsStorable t → IsMessage (message_bytes (message_told t.history to told)) (message_told t.history to told)
 
 -- a sane replica that stands for it and may be written is read back, unless its file is too long: its numbers, identifiers and characters
 -- fit the fields of the format

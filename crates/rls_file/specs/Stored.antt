@@ -1,4 +1,5 @@
 -- What is stored is a file again.
+-- Why: docs/DECISIONS.md, 43.
 use Rattle.std.specs.Prelude.{◌≡◌, ◌≢◌, ◌≤◌, All, None, length}
 use Rattle.rls_ident.specs.declared.limits.TheConstants.{OPERATION_BYTES, FILE_BYTES}
 use Rattle.rls_ident.specs.Lists.{IsIn}

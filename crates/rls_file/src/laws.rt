@@ -1,7 +1,7 @@
 //! Laws of files and of stored replicas. Each call runs nothing and takes no memory; its contract states the fact.
 
 ghost use Rattle.rls_file.specs.FileLaws.{FilesAreRead, ReadAreFiles, JournalsAreRead, PlacesOfBroken, PartsAreGiven};
-ghost use Rattle.rls_file.specs.Histories.{FreshIsStorable, LinesKeepStorable, SentIsMessage, StorableIsReadBack, TakenIsStorable};
+ghost use Rattle.rls_file.specs.Histories.{FreshIsStorable, LinesKeepStorable, SentIsMessage, StorableIsReadBack, TakenIsStorable, ToldIsMessage};
 ghost use Rattle.rls_file.specs.InFlight.{InFlight};
 ghost use Rattle.rls_file.specs.Kept.{FreshIsWritable, LinesKeepWritable, LoadedIsWritable, TakenIsWritable};
 ghost use Rattle.rls_file.specs.Stored.{StoredAgain};
@@ -52,6 +52,7 @@ pub fn histories_are_stored<L, F>()
     ensures lines { LinesKeepStorable L F }
     ensures taken { TakenIsStorable }
     ensures sent { SentIsMessage }
+    ensures told { ToldIsMessage }
     ensures read_back { StorableIsReadBack }
 {}
 

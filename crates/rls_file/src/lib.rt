@@ -1,4 +1,5 @@
 //! Replica files: what those of all forms say, journals of form 1 read, and a replica stored as a file and loaded again.
+//! Why: CHOICES.md, 23, 50.
 #![tactic(auto)]
 
 mod head;

@@ -1,4 +1,5 @@
 //! Loading a replica.
+//! Why: CHOICES.md, 62, 220.
 
 ghost use Rattle.std.specs.Prelude.{◌≡◌, ◌<◌, ◌-◌, ◌^◌, ℕ, List, length, IfOk, Ok, Err};
 ghost use Rattle.rls_codec.specs.CodecLaws.{IsBytes};

@@ -1,4 +1,5 @@
 //! Journals, read into a replica, which decides whether the next entry keeps its rule.
+//! Why: CHOICES.md, 61.
 
 ghost use Rattle.std.specs.Prelude.{◌≡◌, ◌<◌, [], length, None, Ok, nat_le, IfErr, IfOk};
 ghost use Rattle.rls_codec.specs.Gives.{Fails, Gives};

@@ -1,4 +1,5 @@
 //! Storing a replica.
+//! Why: docs/DECISIONS.md, 43.
 
 ghost use Rattle.std.specs.Prelude.{◌≡◌, ◌<◌, ◌≤◌, ◌-◌, ◌^◌, ℕ, length, min, IfOk, Err};
 ghost use Rattle.rls_ident.specs.declared.limits.TheConstants.{FILE_BYTES};

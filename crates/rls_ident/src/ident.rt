@@ -1,4 +1,5 @@
 //! Identifiers: nonempty lists of tuples, in lexicographic order (LogootSplit: André and others, 2013).
+//! Why: CHOICES.md, 10, 18.
 
 ghost use Rattle.std.specs.Prelude.{◌≡◌, ℕ, ◌+◌, ◌<◌, ◌≤◌, pos, ◌+ℤ◌, ◌-ℤ◌, ◌≤ℤ◌, length, slice_get, Some, None, [], ◌∷◌, ◌++◌, ◌↔◌, drop, IfOk, OnOk, IsErrOf, IsTrue};
 ghost use Rattle.std.specs.List.{All};

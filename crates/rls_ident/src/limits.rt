@@ -1,4 +1,5 @@
 //! The limits of groups, operations, messages and files, each of them once.
+//! Why: docs/DECISIONS.md, 87.
 
 /// The most members that a group has.
 pub const MEMBERS: u32 = 64;

@@ -1,4 +1,5 @@
 //! Tuples, of which identifiers consist (LogootSplit: André and others, 2013).
+//! Why: CHOICES.md, 166.
 
 ghost use Rattle.std.specs.Prelude.{◌≡◌, ◌+ℤ◌, ◌-ℤ◌, ◌≤ℤ◌, pos, IsTrue};
 ghost use Rattle.rls_ident.specs.Tuples.{at_spot, spot_cmp, tuple_cmp, tuple_eq};

@@ -1,4 +1,5 @@
 //! Vectors: one count for each member.
+//! Why: CHOICES.md, 208.
 
 ghost use Rattle.std.specs.Prelude.{◌≡◌, ◌<◌, ◌≤◌, ◌-◌, ◌^◌, ◌++◌, ◌∷◌, [], IfOk, OnOk, OnErr, length, slice_index, replicate};
 ghost use Rattle.std.specs.List.{All};

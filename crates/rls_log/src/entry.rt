@@ -1,4 +1,5 @@
 //! Where the bytes of an operation stand.
+//! Why: docs/DECISIONS.md, 142.
 
 ghost use Rattle.std.specs.Prelude.{◌≡◌, ◌+◌, ◌≤◌, length, IfOk};
 ghost use Rattle.rls_log.specs.Encoded.{part_of};

@@ -1,4 +1,5 @@
 //! Large deletions, kept as values beside their bytes.
+//! Why: CHOICES.md, 145.
 
 ghost use Rattle.std.specs.Prelude.{◌≡◌, ℕ, List, Option, Some, Ok, true, not, nat_lt, IfOk, IfErr, IfSome, OnOk, OnErr};
 ghost use Rattle.std.specs.List.{filter};

@@ -1,4 +1,5 @@
 //! The greatest number of each author, which tells how many operations a vector leaves uncovered at most.
+//! Why: CHOICES.md, 179.
 
 ghost use Rattle.std.specs.Prelude.{◌≡◌, ◌-◌, ◌^◌, ◌≤◌, ◌++◌, ◌∷◌, [], ℕ, List, min, length, slice_index, IfOk};
 ghost use Rattle.rls_ops.specs.declared.op.Op.{Op as OpSeen};

@@ -1,4 +1,5 @@
 //! The log: operations in order, kept as bytes.
+//! Why: docs/DECISIONS.md, 142, 235; CHOICES.md, 144, 180, 219.
 
 ghost use Rattle.std.specs.Prelude.{◌≡◌, ◌<◌, ◌^◌, IsTrue, All, ◌++◌, ◌∷◌, [], ◌==◌, Some, length, take, slice_get, IfOk, IfSome, OnOk, OnErr};
 ghost use Rattle.rls_ident.specs.Vectors.{at_most};

@@ -1,4 +1,5 @@
 //! The operations of a log that a vector doesn't cover.
+//! Why: CHOICES.md, 48.
 
 ghost use Rattle.std.specs.Prelude.{◌≡◌, ◌-◌, ◌^◌, ◌≤◌, ◌++◌, [], min, length, take, sum_by, All, IfOk, OnOk};
 ghost use Rattle.std.specs.List.{flat_map};

@@ -2,6 +2,7 @@
 //! identifiers whether they may follow one another.
 //!
 //! Each call takes a part from the front of the bytes, and answers what is asked of it with the bytes after it.
+//! Why: CHOICES.md, 153.
 
 ghost use Rattle.std.specs.Prelude.{◌≡◌, IfOk, IsTrue, length};
 ghost use Rattle.std.specs.Str.{chars};

@@ -1,4 +1,5 @@
 -- What a member knows of what each member has accepted, and who has left.
+-- Why: docs/DECISIONS.md, 89.
 use Rattle.std.specs.Prelude.{◌≡◌, ℕ, zero, suc, ◌<◌, Bool, true, false, not, ◌&&◌, ◌||◌, List, [], ◌∷◌, ◌++◌, ◌==◌, nat_le, length, slice_index, slice_set, get_or, replicate, filter, if◌then◌else◌}
 use Rattle.rls_ident.specs.Vectors.{at_most, join, meet, raise}
 use Rattle.rls_ops.specs.declared.op.Op.{Op}

@@ -1,4 +1,5 @@
 -- Operations that wait, in increasing order of author and number.
+-- Why: docs/DECISIONS.md, 89.
 use Rattle.std.specs.Prelude.{ℕ, Bool, true, ◌&&◌, ◌||◌, List, [], ◌∷◌, ◌==◌, nat_lt, find, Option, if◌then◌else◌}
 use Rattle.std.specs.List.{list_all}
 use Rattle.rls_ident.specs.Vectors.{at_most}

@@ -1,4 +1,5 @@
 //! Operations and messages.
+//! Why: CHOICES.md, 31.
 #![tactic(auto)]
 
 mod message;

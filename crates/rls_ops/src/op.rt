@@ -1,4 +1,5 @@
 //! Operations.
+//! Why: CHOICES.md, 207.
 
 ghost use Rattle.std.specs.Prelude.{◌≡◌, ◌<◌, ◌++◌, ◌∷◌, ◌==◌, [], Some, IfOk, OnOk, OnErr, length, slice_get};
 ghost use Rattle.rls_ops.specs.declared.op.Body.TheVariants.{Insert};

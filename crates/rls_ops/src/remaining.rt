@@ -1,4 +1,5 @@
 //! Operations that are taken one after another.
+//! Why: CHOICES.md, 212.
 
 ghost use Rattle.std.specs.Prelude.{◌≡◌, ◌∷◌, [], IfSome, IfNone};
 

@@ -1,5 +1,6 @@
 //! How many bytes an operation and its fields have where they are written, and what stands before the operations of a message. Each number
 //! is the greatest u64 if there are more.
+//! Why: CHOICES.md, 196.
 
 ghost use Rattle.std.specs.Prelude.{◌≡◌, ◌≤◌, ◌-◌, ◌+◌, ◌^◌, min, sum_by};
 ghost use Rattle.rls_ops.specs.Sizes.{tuple_size, ident_size, run_size, char_size, name_size, body_size, op_size, most_ident, most_run, most_body, op_most, head_size};

@@ -1,5 +1,6 @@
 //! The parts of a replica, as a snapshot holds them: read from what the replica keeps, and the rules that they have to keep, tested. The
 //! stems are such a part, and tell where an own identifier goes on.
+//! Why: CHOICES.md, 17, 19, 92, 123.
 #![tactic(auto)]
 
 mod epochs;

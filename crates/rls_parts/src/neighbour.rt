@@ -1,4 +1,5 @@
 //! What stands beside the place of an insertion.
+//! Why: CHOICES.md, 197.
 
 ghost use Rattle.std.specs.Prelude.{◌≡◌, pos, ◌+ℤ◌, ◌-ℤ◌, ◌≤ℤ◌, IfOk, IfSome, option_map};
 ghost use Rattle.rls_ident.specs.Tuples.{at_spot, offset_of};

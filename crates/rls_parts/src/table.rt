@@ -1,4 +1,5 @@
 //! The stems of all authors.
+//! Why: CHOICES.md, 202.
 
 ghost use Rattle.std.specs.Prelude.{◌≡◌, ◌+◌, ◌^◌, ◌<◌, ◌≤◌, ◌++◌, ◌∷◌, [], pos, OnOk, OnErr, IfOk, IfSome, IfNone, IsTrue, length, option_copied, ◌-ℤ◌, if◌then◌else◌, slice_index, ◌+ℤ◌, ◌<ℤ◌, ◌≤ℤ◌};
 ghost use Rattle.rls_ident.specs.Between.{are_bounds, between, bound_tuples};

@@ -1,4 +1,5 @@
 //! Places that travel: anchors as words, which other members read.
+//! Why: CHOICES.md, 152.
 #![tactic(auto)]
 
 pub mod laws;

@@ -1,4 +1,5 @@
 //! The word of a place.
+//! Why: CHOICES.md, 164.
 
 ghost use Rattle.std.specs.Prelude.{◌≡◌, ◌++◌, OnOk, IfOk, string_bytes};
 ghost use Rattle.rls_places.specs.Words.{epoch_word, named_word, place_word};

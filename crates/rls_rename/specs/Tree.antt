@@ -1,4 +1,5 @@
 -- Epochs: a topmost epoch and the renamings below it. They stand latest first, so that a parent stands behind its children.
+-- Why: docs/DECISIONS.md, 9.
 use Rattle.std.specs.Prelude.{ℕ, Bool, false, ◌||◌, List, [], ◌∷◌, ◌++◌, if◌then◌else◌, IsTrue, IsFalse}
 use Rattle.std.specs.declared.cmp.Ordering.{Ordering}
 use Rattle.std.specs.Ordering.{is_lt, nat_cmp, on, then_cmp}

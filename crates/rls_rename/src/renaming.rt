@@ -1,4 +1,5 @@
 //! Renamings.
+//! Why: CHOICES.md, 93.
 
 ghost use Rattle.std.specs.Prelude.{◌≡◌, ℕ, ◌<◌, ◌≤◌, length, List, ◌∷◌, IfOk, IfSome, IfNone, IsErrOf, ◌↔◌};
 ghost use Rattle.rls_ident.specs.declared.limits.TheConstants.{IDENTIFIERS};

@@ -1,4 +1,5 @@
 -- The status and the line of each ending of the program but success, and but for refused operations, whose status is 5.
+-- Why: docs/DECISIONS.md, 25.
 use Rattle.std.specs.Prelude.{ℕ, List, [], ◌∷◌, ◌++◌, codes}
 use Rattle.std.specs.Fmt.{decimal}
 use Rattle.rls_report.specs.Texts.{line}

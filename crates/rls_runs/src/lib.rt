@@ -1,4 +1,5 @@
 //! Runs of identifiers, lists of them, and texts.
+//! Why: CHOICES.md, 214.
 #![tactic(auto)]
 
 mod run;

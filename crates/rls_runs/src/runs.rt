@@ -1,4 +1,5 @@
 //! Lists of identifiers, kept as runs.
+//! Why: CHOICES.md, 217.
 
 ghost use Rattle.std.specs.Prelude.{◌≡◌, ℕ, ◌+◌, ◌-◌, ◌<◌, ◌≤◌, ◌^◌, ◌++◌, ◌∷◌, [], List, length, drop, slice_get, slice_index, Some, IfOk, OnOk, OnErr, IsErrOf, IsTrue, IsFalse, ◌↔◌, Contains, pos};
 ghost use Rattle.rls_ident.specs.declared.tuple.Tuple.{Tuple};

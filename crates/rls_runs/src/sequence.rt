@@ -1,4 +1,5 @@
 //! Lists that grow at their end.
+//! Why: docs/DECISIONS.md, 100.
 
 ghost use Rattle.std.specs.Prelude.{◌≡◌, ◌<◌, ◌++◌, ◌∷◌, ◌==◌, [], OnOk, OnErr, length, slice_get, Some};
 

@@ -1,4 +1,5 @@
 //! Texts.
+//! Why: CHOICES.md, 194, 203.
 
 ghost use Rattle.std.specs.Prelude.{◌≡◌, ◌<◌, ◌≤◌, ◌+◌, ◌++◌, ◌∷◌, [], IsTrue, IfOk, OnOk, OnErr, length, take, drop, slice_index, encode_utf8_all};
 ghost use Rattle.std.specs.VecDeque.{deque_len, deque_capacity};

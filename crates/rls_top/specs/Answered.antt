@@ -1,6 +1,7 @@
 -- What a command does with its devices, in the words with which these say what a call makes of them: of every device, also of one that tells
 -- nothing of what it holds. So it is said which file a load found and which bytes the reads gave, and that what was stored and written is
 -- what these call for.
+-- Why: docs/DECISIONS.md, 250.
 use Rattle.std.specs.Prelude.{◌≡◌, ◌<◌, ◌≤◌, ◌⊎◌, ℕ, Bool, true, false, List, length, take, Option, Some, None, option_map, Result, Ok, Err}
 use Rattle.rls_ident.specs.declared.limits.TheConstants.{FILE_BYTES, INPUT_BYTES}
 use Rattle.rls_io.specs.declared.devices.Found.{Found}

@@ -1,4 +1,5 @@
 -- What a command calls for, by its words, the kept file and the input, read over what the replica consists of that the file says.
+-- Why: docs/DECISIONS.md, 25, 39.
 use Rattle.std.specs.Prelude.{ℕ, Bool, true, false, not, ◌&&◌, ◌==◌, List, [], length, zip, encode_utf8_all, Option, Some, None, option_map, Result, Ok, Err, nat_lt, if◌then◌else◌}
 use Rattle.std.specs.List.{flat_map}
 use Rattle.rls_ident.specs.declared.limits.TheConstants.{INPUT_BYTES}

@@ -1,4 +1,5 @@
 -- How a command ends, given what it calls for.
+-- Why: docs/DECISIONS.md, 165.
 use Rattle.std.specs.Prelude.{◌≡◌, ◌⊎◌, ℕ, List, Option, Some, IfOk, IfSome, option_map, IsTrue}
 use Rattle.rls_io.specs.Device.{Appends}
 use Rattle.rls_ops.specs.Spelling.{message_bytes}

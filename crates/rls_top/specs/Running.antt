@@ -1,4 +1,5 @@
 -- How a command ends, in one relation: of its stages, and of the whole with its status.
+-- Why: docs/DECISIONS.md, 165.
 use Rattle.std.specs.Prelude.{◌≡◌, ◌≢◌, ◌<◌, ◌≤◌, ◌⊎◌, ℕ, Bool, List, Option, Some, None, IfSome, IsSome, IfOk, IfErr, OnOk, IsTrue, IsFalse, Result, Err}
 use Rattle.rls_io.specs.Device.{Appends, Keeps, Rose}
 use Rattle.rls_io.specs.Memory.{bytes_of}

@@ -1,4 +1,5 @@
 //! All that the program does.
+//! Why: CHOICES.md, 40, 42.
 #![tactic(auto)]
 
 mod command;

@@ -1,4 +1,5 @@
 //! Messages that are taken.
+//! Why: CHOICES.md, 206.
 
 ghost use Rattle.std.specs.Prelude.{◌≡◌, length, string_bytes, IfOk, IsSome};
 ghost use Rattle.rls_codec.specs.CodecLaws.{IsMessage};

@@ -1,4 +1,5 @@
 //! The words of a command.
+//! Why: CHOICES.md, 41, 44.
 
 ghost use Rattle.std.specs.Prelude.{◌≡◌, map, string_bytes};
 ghost use Rattle.rls_top.specs.Words.{alone, new_of, send_of, trial_of, command_of};

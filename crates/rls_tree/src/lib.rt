@@ -1,4 +1,5 @@
 //! The text of a document as a balanced tree of blocks, each a maximal run of identifiers with its characters.
+//! Why: docs/DECISIONS.md, 101; CHOICES.md, 52, 189, 216.
 #![tactic(auto)]
 
 mod document;

@@ -1,4 +1,5 @@
 //! The block tree.
+//! Why: CHOICES.md, 167, 200.
 
 ghost use Rattle.std.specs.Prelude.{◌≡◌, ℕ, ◌+◌, ◌-◌, ◌*◌, ◌^◌, ◌≤◌, [], ◌<◌, pos, ◌+ℤ◌, ◌≤ℤ◌, None, option_map, length, take, drop, reverse, slice_get, Some, IfSome, IfNone, IfOk, OnOk, OnErr, IsTrue, IsFalse, encode_utf8_all};
 ghost use Rattle.std.specs.List.{list_all};
