@@ -79,7 +79,21 @@ has_release() {
 
 is_of_release() { sources_here && [ "$here" = "${release[sources]-}" ]; }
 
-# Writes down what was chosen for these times; whoever may not write there chooses again the next time. The note has the time at which the
+# Copies the released program beside the note of the choice, so that nothing else runs until it is chosen anew. Where there is no room for it, the
+# released program is compared for each command.
+keep_release() {
+  local copy=$built/released.$$
+  {
+    if cp -- "$released_program" "$copy" && [ "$(sum_of_input <"$copy")" = "${release[program]}" ] && mv -f "$copy" "$built/released"; then
+      program=$built/released
+      return
+    fi
+    rm -f "$copy"
+  } 2>/dev/null
+  return 1
+}
+
+# Writes down what was chosen for these times, or this release; whoever may not write there chooses again the next time. The note has the time at which the
 # choice began, so that what is changed after it is newer.
 note() {
   {
@@ -131,7 +145,7 @@ choose_release() {
   local of
   check_release
   of="this is the released program ${release[version]}, proved and built from commit ${release[commit]:0:7}"
-  if ! mkdir -p "$built" 2>/dev/null || ! [ -w "$built" ]; then return; fi
+  if ! mkdir -p "$built" 2>/dev/null || ! [ -w "$built" ] || ! keep_release; then return; fi
   if has_sources && ! is_of_release; then
     say "$of, and not from the sources that are here now; \`rls build\` proves and builds these."
   elif [ -t 2 ] && has_sources; then

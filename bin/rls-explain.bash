@@ -1,7 +1,8 @@
-# What the program's line on standard error means, and what to do: bin/rls reads this after a command that failed, and calls
-# explain STATUS LINES COMMAND; after words that are no command, explain_words; and where a stored file has just grown, advise_on.
-# docs/USE.md has the same as a table.
+# What the program's line on standard error means, and what to do: bin/rls reads this after a command that failed, and calls `tell`; after words
+# that are no command, refuse_words; and where a stored file has just grown, advise_on. docs/USE.md has the same as a table.
 # shellcheck shell=bash
+# bin/rls sets `program`, `status`, `errors`, `say` and `find_stored`.
+# shellcheck disable=SC2154
 
 # A pattern of bash takes time with the square of what it looks at, and a line may have 64 MB. So only the front of a line is held in a
 # variable, and programs look at the whole.
@@ -20,6 +21,25 @@ script_line() {
   raw=$text
   [ "${#text}" -le 60 ] || text="${text:0:57}..."
   shown=${text//[[:cntrl:]]/?}
+}
+
+# What the program wrote on standard error, in `errors`, and after a failure what it means.
+tell() {
+  # Whoever reads a text by a pipe and stops, as `head` and pagers do, has what he wants.
+  case "$status $1" in '9 text' | '9 ids' | '9 stat' | '9 send' | '9 trial') if [ -p /dev/stdout ]; then return 9; fi ;; esac
+  [ -z "$errors" ] || printf '%s\n' "$errors" >&2
+  [ "$status" = 0 ] || explain "$status" "$errors" "$1"
+  return "$status"
+}
+
+# Words that are no command: this script says what is wrong with them, and after it the program its line.
+refuse_words() {
+  local errors
+  errors=$("$program" "$@" 2>&1 </dev/null)
+  status=$?
+  explain_words "${1-}"
+  printf '%s\n' "$errors" >&2
+  exit "$status"
 }
 
 explain() {
@@ -52,7 +72,7 @@ explain() {
       esac
       ;;
     '10 '*) say "whether anything was stored is for \`rls text\` to show. It may help to close other programs." ;;
-    '11 '*) say 'the input may have 67,108,864 bytes, and the stored file 268,435,456. Nothing was stored (docs/USE.md, "Limits").' ;;
+    '11 '*) explain_too_large "$command" ;;
   esac
 }
 
@@ -102,6 +122,71 @@ explain_bad_line() {
   say "line $1 of the script${shown:+ is \`$shown\`}. $why Nothing was done."
 }
 
+# --- Limits
+
+
+# Sets `grouped` to a number with a comma before each three digits.
+group() {
+  local rest=$1
+  grouped=
+  while [ "${#rest}" -gt 3 ]; do grouped=,${rest: -3}$grouped rest=${rest:0:-3}; done
+  grouped=$rest$grouped
+}
+
+# Sets `number` to the bytes of the stored file. A slot's file may be longer.
+stored_size() {
+  local stored before
+  find_stored || return
+  declare -F slot_size >/dev/null || . "$top/bin/rls-store.bash"
+  if [ "$before" = 8 ]; then slot_size "$stored"; else number=$(stat -Lc %s "$stored" 2>/dev/null); fi
+}
+
+go_on="\`rls restart GROUP ME MEMBERS\` begins a new group with the text alone, which is far shorter (docs/USE.md, \"Limits\")."
+
+# Which of the two limits it was, with both numbers, what still works, and the way out.
+explain_too_large() {
+  local number=0 size='' grouped bytes
+  case $1 in edit | take) [ ! -f /dev/stdin ] || size=$(stat -Lc %s /dev/stdin 2>/dev/null) ;; esac
+  group "${size:=0}" && bytes=$grouped
+  if [ "$size" -gt 67108864 ]; then
+    if [ "$1" = take ]; then
+      say "the message has $bytes bytes or more, and may have 67,108,864; none that \`rls send\` writes has more. Nothing was taken: ask for it again."
+    else
+      say "the script has $bytes bytes or more, and may have 67,108,864. Nothing was stored. In parts it can be performed:" \
+        "split -C 67108864 SCRIPT part. && for part in part.*; do rls edit <\"\$part\" || break; done"
+    fi
+    return
+  fi
+  stored_size
+  group "${number:-0}"
+  say "the stored file has $grouped bytes, and would have more than the 268,435,456 that it may have. Nothing was stored." \
+    'It can be read all the same, and `rls send TO` works. It gets shorter once messages show that the others have what is in it.'
+  say "A shorter input may still fit. $go_on"
+}
+
+# Says that the file is nearly full, once a day: a file beside it has when it was said.
+advise_full() {
+  local told='' number grouped
+  [ ! -s replica.told ] || { read -r told <replica.told; } 2>/dev/null
+  if [[ $told =~ ^[0-9]{1,12}$ ]] && ((10#$told <= EPOCHSECONDS && EPOCHSECONDS < 10#$told + 86400)); then return; fi
+  { echo "$EPOCHSECONDS" >replica.told; } 2>/dev/null
+  group "$1"
+  say "the stored file has $grouped bytes of the 268,435,456 that it may have. When it is full, nothing can be stored any more. It gets shorter once messages" \
+    "show that the others have what is in it. If that doesn't help, $go_on"
+}
+
+# What is said of an operation of this many bytes.
+why_operation() {
+  local grouped help
+  group "$1"
+  case $raw in
+    r*) help="The text can be edited as before. $go_on" ;;
+    d*) help='Delete in parts, or rename before: echo r | rls edit' ;;
+    *) help='The identifiers at this place are long. Rename before: echo r | rls edit' ;;
+  esac
+  why="it would need $grouped bytes, and an operation may have 16,777,216. $help"
+}
+
 explain_refused() {
   local shown='' raw='' last='' why
   local -a words
@@ -119,12 +204,12 @@ explain_refused() {
     'empty document') why='the text is empty, so there is nothing to rename' ;;
     'not a boundary'*) why="no character, as a reader sees it, ends at ${words[3]}" ;;
     'too many characters'*) why="it has ${words[3]} characters: an insertion may have 1,048,576, and a deletion or a rename 4,194,304" ;;
-    'operation too large'*) why="it would need ${words[3]} bytes, and may have 16,777,216; for a rename docs/USE.md, \"When to rename\", says what to do then" ;;
+    'operation too large'*) why_operation "${words[3]}" ;;
     'numbers spent') why='this member has made as many operations as there may be: begin with another number' ;;
     left) why='this member has left or was retired, and can never edit again' ;;
     *) return ;;
   esac
-  say "line $1${shown:+ is \`$shown\`}: $why. Nothing was stored."
+  say "line $1${shown:+ is \`$shown\`}: ${why%.}. Nothing was stored."
 }
 
 # What comes before the usage line of the program, which doesn't know the commands of the launcher.
@@ -137,7 +222,7 @@ explain_words() {
     retire) say 'a number comes after it: rls retire NUMBER' ;;
     take) say 'a message comes from standard input: rls take < MESSAGE' ;;
     head) say 'a message comes from standard input: rls head < MESSAGE' ;;
-    send) say 'TO is the number of a member: rls send TO > MESSAGE' ;;
+    send) say 'TO is the number of a member, and FILE a message of that member: rls send TO > MESSAGE; or: rls send TO --told FILE > MESSAGE' ;;
     trial) say 'two numbers come after it: rls trial SEED STEPS' ;;
     check) say 'at most one file comes after it: rls check FILE' ;;
     text | ids | stat | leave | session | build) say 'nothing comes after it.' ;;

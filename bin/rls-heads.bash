@@ -118,13 +118,10 @@ is_own() {
 
 # --- head
 
-# Prints the head of a message that comes from standard input.
-print_head() {
-  local LC_ALL=C one two group members whose number k form counts=''
-  [ ! -t 0 ] || {
-    say 'a message is read from a file or a program: rls head < MESSAGE'
-    exit "$NOT_SAFE"
-  }
+# Reads the head of a message from standard input: `group`, `members`, `whose`, and in `counts` a space before each count.
+read_head() {
+  local form k
+  counts=''
   read_bytes 277
   printf -v form %d "'${one:4:1}"
   if [ "${one:0:4}" != RLSM ] || [ "${one:4:1}" != "${two:4:1}" ] || [ "$form" = 0 ]; then
@@ -140,6 +137,16 @@ print_head() {
     exit 4
   fi
   for ((k = 0; k < members; k++)); do count_at "$k" && counts+=" $number"; done
+}
+
+# Prints the head of a message that comes from standard input.
+print_head() {
+  local LC_ALL=C one two group members whose number counts
+  [ ! -t 0 ] || {
+    say 'a message is read from a file or a program: rls head < MESSAGE'
+    exit "$NOT_SAFE"
+  }
+  read_head
   trap '' PIPE
   { printf 'group %s\nmembers %s\nsender %s\ncounts%s\n' "$group" "$members" "$whose" "$counts"; } 2>/dev/null || {
     [ -p /dev/stdout ] || say "the output can't be written."

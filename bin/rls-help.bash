@@ -1,5 +1,19 @@
-# What `rls help` and `rls help COMMAND` print: bin/rls reads this for them.
+# Commands that need no program, and what `rls help` and `rls help COMMAND` print: bin/rls reads this for them.
 # shellcheck shell=bash
+# bin/rls sets `top` and `say`.
+# shellcheck disable=SC2154
+
+# Performs these words if they need no program, and ends the script then.
+need_nothing() {
+  case "${1-} ${2-} $#" in
+    -h\ * | --help\ * | help\ *) help "${2-}" ;;
+    *\ -h\ * | *\ --help\ *) help "$1" ;;
+    -V\ * | --version\ * | version\ *) . "$top/bin/rls-choose.bash"; version ;;
+    'head  1') . "$top/bin/rls-heads.bash"; print_head ;;
+    *) return 0 ;;
+  esac
+  exit
+}
 
 # help [COMMAND]: one screen that names every command, or what there is to know of one.
 help() {
@@ -109,6 +123,10 @@ Prints the text, and no line feed after it.
 rls send TO > MESSAGE
 Writes the message for member TO. A later one holds all that an earlier one
 held and TO doesn't have yet. It changes nothing.
+rls send TO --told FILE > MESSAGE
+The same, without what the head of FILE, a message of TO, says that TO has, and
+without what TO made. Two members who have more for each other than one message
+holds get on by it. It stores the replica's file, like a session.
 = take
 rls take < MESSAGE
 Takes a message, and counts what was applied (new), released (had waited),

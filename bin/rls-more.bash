@@ -1,16 +1,35 @@
-# The commands of the launcher that the program doesn't have, `edit --text`, `check`, `retire` and `restart`, and what is looked at before
-# `new`: bin/rls reads this for them. Each command ends the script.
+# The commands of the launcher that the program doesn't have, `edit --text`, `send --told`, `check`, `retire`, `restart` and those of circles, and what
+# is looked at before `new`: bin/rls reads this for them. Each command ends the script.
 # shellcheck shell=bash
-# bin/rls sets `top`, `program`, `status`, `held`, NOT_SAFE, NOT_EQUAL, `say`, `refuse`, `ask`, `look`, `perform` and `advise`.
+# bin/rls sets `top`, `program`, `status`, `held`, NOT_BUILT, NOT_SAFE, NOT_EQUAL, `say`, `refuse`, `ask`, `look`, `perform` and `advise`.
 # shellcheck disable=SC2154
 
 more() {
   case "$1 ${2-}" in
+    share\ * | join\ * | sync\ * | who\ * | where\ * | drop\ * | give\ * | part\ *) circles "$@" ;;
     'edit --text') look edit </dev/null; edit_text "$3" ;;
+    send*)
+      [ "$3" = --told ] || { is_command "$@" || refuse_words "$@"; }
+      look send
+      look session </dev/null
+      send_told "$2" "$4"
+      ;;
     retire*) look retire; retire "$2" ;;
     check*) look check; check "${@:2}" ;;
     restart*) look restart; restart "${@:2}" ;;
   esac
+}
+
+# Circles: several people, their numbers and their files (docs/SHARING.md). These commands are in Python.
+circles() {
+  command -v python3 >/dev/null || {
+    say "\`rls $1\` needs python3 (Debian, Ubuntu: apt install python3). The other commands don't."
+    exit "$NOT_BUILT"
+  }
+  # What Python compiles is kept outside of the checkout; without a home nothing is kept.
+  local cache=${XDG_CACHE_HOME:-${HOME:+$HOME/.cache}}
+  [ -n "$cache" ] || export PYTHONDONTWRITEBYTECODE=1
+  RLS=$program PYTHONPATH=$top/examples/python PYTHONPYCACHEPREFIX=${cache:+$cache/rls} exec python3 -S -m rls "$@"
 }
 
 # A folder for a moment, which goes when the script ends.
@@ -80,7 +99,7 @@ edit_text() {
     0 | 5)
       { [ ! -s replica.taken ] || : >replica.taken; } 2>/dev/null
       tell_marks "$1"
-      advise
+      advise edit
       ;;
   esac
   exit "$status"
@@ -222,7 +241,7 @@ retire() {
 # Begins a replica of another group in a new folder, with the text of this one, and changes nothing here.
 restart() {
   local folder=${4-} numbers
-  [[ $1 =~ ^[0-9]+$ && $2 =~ ^[0-9]+$ && $3 =~ ^[0-9]+$ ]] || refuse_words restart "$@"
+  [[ $1 =~ ^[0-9]+$ && $2 =~ ^[0-9]+$ && $3 =~ ^[0-9]+$ ]] || { . "$top/bin/rls-explain.bash" && refuse_words restart "$@"; }
   make_room
   numbers=$(perform stat) || exit
   [ "$(number_of group)" != "$1" ] ||
@@ -259,4 +278,47 @@ fill() {
   for part in "$room"/part.*; do
     [ ! -f "$part" ] || perform edit <"$part" >/dev/null || return
   done
+}
+
+# --- send TO --told FILE
+
+# The program makes such a message in a session alone, which stores the replica's file at its end.
+send_told() {
+  local LC_ALL=C one two group members whose number counts='' its line
+  . "$top/bin/rls-heads.bash"
+  if [ ! -r "$2" ] || [ -d "$2" ]; then
+    say "$2 can't be read. Nothing was done."
+    exit 8
+  fi
+  read_head <"$2"
+  [ "$whose" = "$1" ] || {
+    say "$2 is a message of member $whose, and not of member $1. Nothing was done."
+    exit 4
+  }
+  its="$group $members"
+  if ! read_own || ! parse_head; then
+    perform send "$1"
+    exit
+  fi
+  [ "$its" = "$group $members" ] || {
+    say "$2 is a message of another text. Nothing was done."
+    exit 4
+  }
+  make_room
+  printf 'v 4\ns %s%s\nq\n' "$1" "$counts" >"$room/requests"
+  perform session <"$room/requests" >"$room/replies" || exit
+  {
+    IFS= read -r line
+    if [ "$line" = 'version 4' ]; then IFS= read -r line; fi
+  } <"$room/replies"
+  # An older program: it makes the message that doesn't look at what was told.
+  if ! [[ $line =~ ^message\ ([0-9]+)$ ]]; then
+    perform send "$1"
+    exit
+  fi
+  tail -c "+$((12 + ${#line}))" "$room/replies" | head -c "${BASH_REMATCH[1]}" || {
+    [ -p /dev/stdout ] || say "the output can't be written."
+    exit 9
+  }
+  exit 0
 }

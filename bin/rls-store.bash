@@ -53,7 +53,7 @@ look_at_file() {
   local mode owner group
   [ ! -L replica.rls ] || refuse "replica.rls is a symbolic link. The command would put a file in its place, and what the link names would stay old." \
     'Go to the folder of that file; or move it here.'
-  read -r mode owner group < <(stat -c '%a %u %g' replica.rls 2>/dev/null) || return 0
+  read -r mode owner group file_size < <(stat -c '%a %u %g %s' replica.rls 2>/dev/null) || return 0
   if [ "$owner" != "$EUID" ] || { [ $((8#$mode & 8#060)) != 0 ] && [ "$group" != "$(group_here)" ]; }; then
     refuse "replica.rls belongs to another user or to another group, and the command would put a file in its place that doesn't: they might not read or write it any more." \
       'Who owns it can run the command, in the group of the file. The files replica.0, replica.1 and replica.gate are written as they are, and keep both.'
@@ -149,12 +149,22 @@ slot_size() {
   done 2>/dev/null <"$1"
 }
 
-# Says that a rename or an exchange is due if the stored file is much larger than its text. It looks only when the file has just grown to
-# 64 KB, 128 KB and so on: one of the slots has the file from before.
+# The bytes of replica.rls before the command.
+file_size=0
+
+# Says that the stored file is nearly full, from nine tenths of its limit on; or that a rename or an exchange is due if it is much larger than its
+# text. At that it looks only when the file has just grown to 64 KB, 128 KB and so on: one of the slots has the file from before. After `take` a rename
+# isn't advised.
 advise() {
-  local stored before number old new mark=65536
-  [ "${RLS_RENAME_AT:-}" != 0 ] && find_stored && [ "$before" = 8 ] && slot_size "$stored" && new=$number || return
-  [ "$new" -ge "$mark" ] || return
+  local stored before number new=$file_size old mark=65536
+  find_stored || return
+  if [ "$before" = 8 ]; then slot_size "$stored" && new=$number || return; fi
+  if [ "$new" -ge 241591911 ]; then
+    . "$top/bin/rls-explain.bash"
+    advise_full "$new"
+    return
+  fi
+  [ "$1" = edit ] && [ "$before" = 8 ] && [ "$new" -ge "$mark" ] && [ "${RLS_RENAME_AT:-}" != 0 ] || return
   slot_size "replica.$((1 - ${stored#replica.}))" && old=$number || old=0
   while [ $((2 * mark)) -le "$new" ]; do mark=$((2 * mark)); done
   if [ "$old" -lt "$mark" ]; then
@@ -171,7 +181,7 @@ edit() {
   perform edit
   case $status in
     0 | 5)
-      advise
+      advise edit
       # A line of another kind that ends with a carriage return is refused.
       case ${held-} in
         '') [ ! -f /dev/stdin ] || ! LC_ALL=C grep -q $'\r$' /dev/stdin || tell_returns ;;

@@ -1,7 +1,7 @@
 # `rls take`: bin/rls reads this for it, after rls-store.bash and rls-heads.bash.
 # shellcheck shell=bash
-# bin/rls sets `program`, `status`, `say`, `refuse` and `tell`; rls-heads.bash sets `read_own`, `read_bytes`, `count_at`, `is_doubted` and `refuse_stale`;
-# rls-store.bash sets `hold_input` and `lock_late`.
+# bin/rls sets `top`, `program`, `status`, `say` and `refuse`; rls-heads.bash sets `read_own`, `read_bytes`, `count_at`, `is_doubted` and `refuse_stale`;
+# rls-store.bash sets `hold_input`, `lock_late` and `advise`.
 # shellcheck disable=SC2154
 
 # Refuses a message whose sender has more operations of this member than this member has made, and notes it. Whether the message is one of
@@ -66,9 +66,10 @@ take() {
     trap '' PIPE
     { printf '%s\n' "$report"; } 2>/dev/null || { errors+=${errors:+$'\n'}'sink fault' status=9; }
   fi
-  tell take
+  [ "$status$errors" = 0 ] || { . "$top/bin/rls-explain.bash" && tell take; }
   if [ "$status" = 0 ]; then tell_missing; fi
   tell_report "$report"
+  case $status in 0 | 5) advise take ;; esac
 }
 
 # Notes that operations came, for `rls edit --text`, and says how many wait.

@@ -5,7 +5,7 @@ import subprocess
 
 from replies import Replies, Wrong
 
-# A line for each request of the session's second version; and which of them a program knows, and whether it knows `e` of the third.
+# A line for each request of the session's second version; and which of them a program knows, and whether it knows `e` of the third, and `s` with counts of the fourth.
 NEWER = ("v", "w", "n", "c 0", "z", "y", "g", "k 0 1", "j 0", "p 1", "a 0")
 KNOWN = {}
 
@@ -130,6 +130,8 @@ class Member:
                 raise Wrong(f"a session says that it knows the second version, and answers `bad` to all but {KNOWN[self.program]}")
             if self.answer("v 3") == "version 3":
                 KNOWN[self.program].add("e")
+            if self.answer("v 4") == "version 4":
+                KNOWN[self.program].add("s")
         self.known = KNOWN[self.program]
 
     def lines(self, edits):

@@ -206,7 +206,16 @@ class Session:
         def look(replies):
             self.made[request["message"]] = replies.block("message")
 
-        self.send(f"s {request['to']}\n", look)
+        self.send(f"s {request['to']}{self.told_by(request['to'])}\n", look)
+
+    def told_by(self, to):
+        """What the last message of a member says that it has, a space before each count, if the program knows that form of `s`."""
+        if "s" in self.member.known:
+            for message in reversed(list(self.messages.values())):
+                numbers = [int.from_bytes(message[at:at + 4], "big") for at in range(13, len(message) - 3, 4)][:2 + 64]
+                if message[:4] == b"RLSM" and len(numbers) > 2 + numbers[0] and numbers[1] == to:
+                    return "".join(f" {count}" for count in numbers[2:2 + numbers[0]])
+        return ""
 
     def ask_undo(self, _):
         self.send("u\n", lambda replies: self.begins(replies, "undone ", "no nothing", "no left"), True)
@@ -246,6 +255,7 @@ class Session:
     def ask_version(self, _):
         self.newer("v\n", lambda replies: self.exactly(replies, "version 2"))
         self.send("v 3\n", lambda replies: self.exactly(replies, "version 3" if "e" in self.member.known else "bad"))
+        self.send("v 4\n", lambda replies: self.exactly(replies, "version 4" if "s" in self.member.known else "bad"))
 
     def ask_store(self, _):
         self.stores |= self.newer("w\n", lambda replies: self.exactly(replies, "saved"))

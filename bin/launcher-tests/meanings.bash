@@ -26,6 +26,19 @@ expect 'help of a command' 'rls send TO > MESSAGE' "$("$rls" help send | head -1
 expect 'help after a command is about it' 'rls take < MESSAGE' "$("$rls" take --help | head -1)"
 expect 'help of what is no command' 1 "$(status_of "$rls" help nothing)"
 
+# What can't be printed: only of a command that stores it is said that this is stored.
+while read -r words wanted; do
+  # shellcheck disable=SC2016,SC2086
+  expect "a full device: $words" "9 $wanted" "$(cd ben && status_of sh -c 'exec "$@" >/dev/full' sh "$rls" ${words//-/ } </dev/null) $(grep -c 'What the command stores is stored' "$room/err")"
+done <<'END'
+text 0
+ids 0
+stat 0
+send-0 0
+trial-1-1 0
+edit 1
+END
+
 # --- What a line of the program means.
 fails() {
   local name=$1 status=$2 words=$3
@@ -47,6 +60,7 @@ expect 'a number that is too high' 4 "$(cd nothing && status_of "$rls" new 7 2 2
 expect 'a number that is too high: what it means' yes "$(says 'it is below MEMBERS')"
 fails 'no such member' 4 'numbered from 0' "$rls" send 5
 fails 'a bad line' 4 'line 2 of the script is `hello`. A line is `i POS TEXT`' script 'i 0 x\nhello\n'
+fails 'a long bad line' 4 'is `x\{57\}\.\.\.`\. A line' script "$(printf 'x%.0s' $(seq 100))\\n"
 fails 'a bad line after many' 4 'line 400 of the script is `hello`' script "$(printf 'i 0 x\\n%.0s' $(seq 399))hello\\n"
 expect 'a byte 0 in a script' 'a.b.c' "$(mkdir zero && cd zero && "$rls" new 7 0 1 >/dev/null && printf 'i 0 a\0b\0c' | "$rls" edit >/dev/null && "$rls" text | tr '\0' .)"
 expect 'a byte 0 in a long script' 2005 "$(cd zero && { printf 'i 0 '; head -c 1000 /dev/zero; head -c 1000 /dev/zero | tr '\0' x; } | "$rls" edit >/dev/null && "$rls" text | wc -c)"
@@ -63,7 +77,7 @@ fails 'a number with a zero in a script' 4 'a zero or a sign in front' script 'i
 fails 'a number with a sign in a script' 4 'a zero or a sign in front' script 'd 0 -1\n'
 fails 'no numbers' 1 'three numbers' "$rls" new seven 0 4
 status_of "$rls" send ada >/dev/null
-expect 'wrong words: what is wrong comes first' 'rls: TO is the number of a member: rls send TO > MESSAGE' "$(head -1 "$room/err")"
+expect 'wrong words: what is wrong comes first' 'rls: TO is the number of a member, and FILE a message of that member: rls send TO > MESSAGE; or: rls send TO --told FILE > MESSAGE' "$(head -1 "$room/err")"
 expect 'wrong words: the line of the program is the last' 'usage: new GROUP' "$(tail -1 "$room/err" | cut -c 1-16)"
 fails 'no such command' 1 'there is no command `status`' "$rls" status
 fails 'no such command, and which there are' 1 'new, edit, text, send, take, head, stat, check, ids, session, leave, retire, restart' "$rls" undo

@@ -139,3 +139,19 @@ expect 'a message of the own number that has more: nothing was taken' by-0 "$(cd
 # Corrections go on with the run of identifiers that they correct.
 mkdir corrected && (cd corrected && "$rls" new 7 0 2 >/dev/null && for k in wrold worls worlz world; do printf 'hello %s' $k >../file && "$rls" edit --text ../file >/dev/null; done)
 expect 'a text that is corrected has few runs' yes "$(cd corrected && [ "$("$rls" stat | sed -n 's/^runs //p')" -le 3 ] && echo yes)"
+
+# --- A message by what its receiver told.
+mkdir told0 told1
+for k in 0 1; do (cd told$k && "$rls" new 7 $k 3 >/dev/null); done
+(cd told0 && echo 'i 0 one' | "$rls" edit >/dev/null && "$rls" send 1 >../told0-1)
+(cd told1 && "$rls" take <../told0-1 >/dev/null && "$rls" send 0 >../told1-0)
+(cd told0 && echo 'i 3 two' | "$rls" edit >/dev/null)
+expect 'a message by what TO told' 0 "$(cd told0 && status_of "$rls" send 1 --told ../told1-0)"
+cp out told0-1
+expect 'a message by what TO told is shorter' yes "$([ "$(wc -c <told0-1)" -lt "$(cd told0 && "$rls" send 1 | wc -c)" ] && echo yes)"
+expect 'a message by what TO told has what it lacks' onetwo "$(cd told1 && "$rls" take <../told0-1 >/dev/null && "$rls" text)"
+expect 'by a message of another member' 4 "$(cd told0 && status_of "$rls" send 2 --told ../told1-0)"
+expect 'by a message of another member: in words' yes "$(says 'is a message of member 1, and not of member 2')"
+expect 'by no message' 4 "$(cd told0 && echo no >../no-message && status_of "$rls" send 1 --told ../no-message)"
+expect 'by no file' 8 "$(cd told0 && status_of "$rls" send 1 --told ../no-file)"
+expect 'by another word' 1 "$(cd told0 && status_of "$rls" send 1 --tell ../told1-0)"
