@@ -2,7 +2,7 @@
 
 ;;; Commentary:
 
-;; What was changed in the buffer is compared with what was there, and handed on place by place.
+;; What a command changed in the buffer is compared with what was there before it, and handed on place by place.
 
 ;;; Code:
 
@@ -53,54 +53,101 @@ undone by itself."
       (setq rls--boundary t rls--typed 1))
     (setq rls--typing (cond (types 'types) (corrects 'corrects)))))
 
-(defvar-local rls--pending nil
-  "What was changed and isn't handed on yet: (FROM TO TEXT).
-From FROM to TO the buffer had TEXT.")
+(defvar-local rls--parts nil
+  "The parts of the buffer that were changed and aren't handed on yet.
+Each is (FROM TO TEXT): from FROM to TO the buffer had TEXT.  They don't touch.
+The one that was changed last comes first, and then those before it, the last
+first.")
+(defvar-local rls--later-parts nil
+  "The parts after the one that was changed last, the first one first.
+Their places are those of `rls--turned', so that no change before them moves
+them.")
+
+(defun rls--turned (part)
+  "PART with its places counted from the end of the buffer.
+If they were counted so, they aren't any more."
+  (let ((end (1+ (buffer-size)))) (list (- end (nth 1 part)) (- end (nth 0 part)) (nth 2 part))))
+
+(defun rls--united (from to parts)
+  "One part from FROM to TO, and over PARTS, which rise."
+  (let ((texts nil) (at (min from (or (nth 0 (car parts)) from))))
+    (setq from at)
+    (dolist (part parts)
+      (push (buffer-substring-no-properties at (nth 0 part)) texts)
+      (push (nth 2 part) texts)
+      (setq at (nth 1 part)))
+    (when (< at to) (push (buffer-substring-no-properties at to) texts))
+    (list from (max at to) (apply #'concat (nreverse texts)))))
 
 (defun rls--changing (from to)
   "Remembers what is there before a change.
-One command may delete a text and then insert another one there, as what is
-filled anew or piped through a program; so changes that touch are put together
-and compared, once the command is done or something else is changed."
+One command may change a place several times, as what is filled anew or piped
+through a program: first all goes, and then other text comes.  So what it
+changes is put together, and compared once it is done."
   (unless (or rls--silent rls--failed)
-    (when (and rls--pending (or (> from (nth 1 rls--pending)) (< to (nth 0 rls--pending)))) (rls--flush))
     (save-restriction
       (widen)
-      (if (not rls--pending) (setq rls--pending (list from to (buffer-substring-no-properties from to)))
-        (when (< from (nth 0 rls--pending))
-          (setf (nth 2 rls--pending) (concat (buffer-substring-no-properties from (nth 0 rls--pending)) (nth 2 rls--pending))
-                (nth 0 rls--pending) from))
-        (when (> to (nth 1 rls--pending))
-          (setf (nth 2 rls--pending) (concat (nth 2 rls--pending) (buffer-substring-no-properties (nth 1 rls--pending) to))
-                (nth 1 rls--pending) to))))))
+      (while (and rls--parts (> (nth 0 (car rls--parts)) to)) (push (rls--turned (pop rls--parts)) rls--later-parts))
+      (while (and rls--later-parts (<= (nth 0 (rls--turned (car rls--later-parts))) to)) (push (rls--turned (pop rls--later-parts)) rls--parts))
+      (let ((touched nil))
+        (while (and rls--parts (>= (nth 1 (car rls--parts)) from)) (push (pop rls--parts) touched))
+        (push (rls--united from to touched) rls--parts)))))
 
 (defun rls--changed (from to gone)
   "Notes how long what was changed is now."
-  (unless (or rls--silent rls--failed (not rls--pending))
-    (setf (nth 1 rls--pending) (+ (nth 1 rls--pending) (- to from) (- gone)))
+  (unless (or rls--silent rls--failed (not rls--parts))
+    (setf (nth 1 (car rls--parts)) (+ (nth 1 (car rls--parts)) (- to from) (- gone)))
     ;; Outside of a command, as in a timer or a program, nothing tells the end.
     (unless this-command (rls--flush))))
 
+(defun rls--blank-p (from to)
+  "Whether there is nothing but white space from FROM to TO."
+  (save-excursion (goto-char from) (skip-chars-forward "\t-\r " to) (= (point) to)))
+
+(defun rls--differences ()
+  "What has become of the parts: lists (AT OLD NEW BEFORE AFTER), which rise.
+From AT on the buffer has NEW, where it had OLD.  Of both the first BEFORE and
+the last AFTER characters stay: beside a part that ended with white space, the
+white space and one character more on each side.  Parts with nothing but white
+space between them are one."
+  (let ((parts nil) (found nil))
+    (dolist (part (append (reverse rls--parts) (mapcar #'rls--turned rls--later-parts)))
+      (if (and parts (rls--blank-p (nth 1 (car parts)) (nth 0 part)))
+          (setcar parts (rls--united (nth 0 part) (nth 1 part) (list (car parts) part)))
+        (push part parts)))
+    (pcase-dolist (`(,from ,to ,gone) parts)
+      (unless (equal gone (buffer-substring-no-properties from to))
+        (let ((low from) (high to))
+          (when (string-match-p "[\t-\r ]\\'" gone)
+            (save-excursion
+              (goto-char from) (skip-chars-backward "\t-\r ") (setq low (max (point-min) (1- (point))))
+              (goto-char to) (skip-chars-forward "\t-\r ") (setq high (min (point-max) (1+ (point))))))
+          (let ((before (buffer-substring-no-properties low from)) (after (buffer-substring-no-properties to high)))
+            (push (list low (concat before gone after) (buffer-substring-no-properties low high) (- from low) (- high to)) found)))))
+    found))
+
 (defun rls--flush ()
   "Hands to the session what was changed."
-  (when (and rls--pending (not rls--failed))
-    (pcase-let ((`(,from ,to ,gone) rls--pending))
-      (setq rls--pending nil)
-      (let ((come (save-restriction (widen) (buffer-substring-no-properties from to))))
-        (unless (equal gone come)
-          (save-match-data (rls--try (lambda () (rls--hand from gone come)))))))))
+  (when (and rls--parts (not rls--failed))
+    (save-match-data
+      (let ((differences (save-restriction (widen) (rls--differences))))
+        (setq rls--parts nil rls--later-parts nil)
+        (when differences (rls--try (lambda () (rls--hand differences))))))))
 
-(defun rls--hand (from gone come)
-  "Hands it on that from FROM on COME is there, where GONE was."
+(defun rls--hand (differences)
+  "Hands DIFFERENCES on, from the first to the last."
   (when rls--boundary (setq rls--replaced 0))
-  (dolist (x (rls-compare gone come))
-    (rls--end-group)
-    (rls--replace (+ from -1 (nth 0 x)) (nth 1 x) (nth 2 x))
-    (setq rls--cut (equal (nth 2 x) "") rls--replaced (1+ rls--replaced))
-    (when (= rls--replaced (1+ (* 2 rls--most-steps)))
-      (message "rls: of so many places that one command changes, undo takes back the last 10,000")))
+  (let ((coarse nil))
+    (pcase-dolist (`(,from ,old ,new ,before ,after) differences)
+      (dolist (x (rls-compare old new before after))
+        (rls--end-group)
+        (rls--replace (+ from -1 (nth 0 x)) (nth 1 x) (nth 2 x))
+        (setq rls--cut (equal (nth 2 x) "") rls--replaced (1+ rls--replaced))
+        (when (= rls--replaced (1+ (* 2 rls--most-steps)))
+          (message "rls: of so many places that one command changes, undo takes back the last 10,000")))
+      (setq coarse (or coarse rls-compare-was-coarse)))
+    (when coarse (message "rls: a change this large was compared line by line, not word by word")))
   (setq rls--edition (1+ rls--edition))
-  (when rls-compare-was-coarse (message "rls: a change this large was compared line by line, not word by word"))
   (rls--edited))
 
 (defun rls--end-group ()

@@ -307,17 +307,19 @@ If white space alone differs, they do so only where as much is before them."
       (let ((x (rls-compare--sizes-before olds)) (y (rls-compare--sizes-before news)))
         (cl-remove-if-not (lambda (pair) (= (aref x (car pair)) (aref y (cdr pair)))) pairs)))))
 
-(defun rls-compare (old new)
+(defun rls-compare (old new &optional before after)
   "The replacements that make NEW of OLD, as lists (AT COUNT TEXT), the last first.
-Their places are those of OLD."
-  (let* ((rls-compare--old old) (rls-compare--new new) (rls-compare--at 0) (rls-compare--to 0) (rls-compare--low 0) (rls-compare--high 0) (rls-compare--found nil)
+Their places are those of OLD.  The first BEFORE and the last AFTER characters
+stay."
+  (let* ((before (or before 0)) (after (or after 0)) (end (- (length old) after)) (new-end (- (length new) after)) (gone (substring old before end)) (come (substring new before new-end))
+         (rls-compare--old old) (rls-compare--new new) (rls-compare--at before) (rls-compare--to before) (rls-compare--low 0) (rls-compare--high 0) (rls-compare--found nil)
          (rls-compare--spent 0) (rls-compare--cut nil) (rls-compare--late (+ (float-time) rls-compare-seconds)) (case-fold-search nil)
-         (olds (rls-compare--lines old)) (news (rls-compare--lines new))
+         (olds (rls-compare--lines gone)) (news (rls-compare--lines come))
          (key #'rls-compare--without-spaces)
-         (a 0) (b 0) (i 0) (j 0) (last (length olds)))
+         (a before) (b before) (i 0) (j 0) (last (length olds)))
     (save-match-data
       ;; Where one of them has nothing but spaces, as in a place of many that a command replaces, there is nothing to look for.
-      (dolist (pair (when (and (string-match-p "[^\t-\r ]" old) (string-match-p "[^\t-\r ]" new))
+      (dolist (pair (when (and (string-match-p "[^\t-\r ]" gone) (string-match-p "[^\t-\r ]" come))
                       (append (rls-compare--line-pairs (vconcat (mapcar key olds)) (vconcat (mapcar key news))) (list (cons last (length news))))))
         (let ((p a) (q b) gone come)
           (while (< i (car pair)) (setq p (+ p (length (car olds))) i (1+ i)) (push (pop olds) gone))
@@ -328,6 +330,7 @@ Their places are those of OLD."
               (when y
                 (rls-compare--same-but-spaces p x q y)
                 (setq a (+ p (length x)) b (+ q (length y)) i (1+ i) j (1+ j)))))))
+      (rls-compare--stays end new-end after)
       (rls-compare--stays (length old) (length new) 0))
     (setq rls-compare-was-coarse rls-compare--cut)
     rls-compare--found))

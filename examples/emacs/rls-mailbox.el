@@ -53,6 +53,15 @@
     (rls--number (car reply) "message")
     (cadr reply)))
 
+(defun rls--told (to)
+  "What the last message that was taken of TO says that it has.
+A space stands before each count.  With the fourth version of the session that
+is left out of what is sent to it.  Empty if there is none."
+  (let ((message (alist-get to rls--taken)))
+    (if (and message (>= rls--version 4) (>= (length message) (+ 21 (* 4 rls--members))) (equal (substring message 0 4) "RLSM"))
+        (mapconcat (lambda (k) (format " %d" (rls--u32 message (+ 21 (* 4 k))))) (number-sequence 0 (1- rls--members)) "")
+      "")))
+
 (defun rls--fault-of (message from)
   "Why the head of MESSAGE isn't what the name of its file, that of FROM, says.
 Nil if it is, or if this is no head at all, which the session says then."
@@ -268,7 +277,7 @@ messages came: then the session may know of places that it didn't know before."
                  (rls--send-request (concat "l " (car told)) nil
                                     (lambda (reply &rest _)
                                       ;; If the text is another one by now, it is asked for again.
-                                      (if (or rls--pending (/= edition rls--edition)) (setq rls--lookup-due t)
+                                      (if (or rls--parts (/= edition rls--edition)) (setq rls--lookup-due t)
                                         (rls--mark-other from (and (string-match "\\`cursor \\([0-9]+\\)\\'" reply)
                                                                    (1+ (string-to-number (match-string 1 reply))))
                                                          (or (cadr told) (rls--name-of from))))))))))))

@@ -11,7 +11,7 @@
 
 (defconst rls--patience 2 "Seconds after which it says that it waits for the program.")
 (defvar-local rls--process nil "The session.")
-(defvar-local rls--version 1 "What the program speaks: 1, 2 or 3.")
+(defvar-local rls--version 1 "What the program speaks: 1, 2, 3 or 4.")
 (defvar-local rls--telling nil "Whether replies tell changes.")
 (defvar-local rls--given 0 "Bytes that the session was given since it stored.")
 (defvar-local rls--waiting nil
@@ -38,10 +38,12 @@ Each is its first character, and what handles its reply.")
     (set-process-query-on-exit-flag (get-buffer-process errors) nil)
     (set-process-sentinel (get-buffer-process errors) #'ignore)
     (with-current-buffer (process-buffer rls--process) (set-buffer-multibyte nil))
-    (let (third)
-      (rls--send-request "v 3" nil (lambda (reply &rest _) (setq third (equal reply "version 3"))))
+    (let ((newest 2))
+      (dolist (version '(3 4))
+        (rls--send-request (format "v %d" version) nil
+                           (lambda (reply &rest _) (when (equal reply (format "version %d" version)) (setq newest version)))))
       (setq rls--telling (and (equal (rls--ask "v") "version 2") (equal (rls--ask "c 1") "telling 1"))
-            rls--version (cond ((not rls--telling) 1) (third 3) (t 2))))))
+            rls--version (if rls--telling newest 1)))))
 
 (defun rls--filter (process output)
   "Keeps OUTPUT of PROCESS, and hands on what is whole."

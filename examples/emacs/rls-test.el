@@ -135,6 +135,29 @@
           (should (= (buffer-size) 12)))))
     (rls-test-close (list a))))
 
+;; One command changes many places, in any order and some of them twice: what comes of it is handed on once, and undone at once.
+(ert-deftest rls-scattered-changes ()
+  (pcase-let ((`(,a) (rls-test-open 1)))
+    (random "scattered")
+    (with-current-buffer a
+      (dotimes (k 40) (insert (format "word %d  and\n\n" k)))
+      (dotimes (_ 60)
+        (let ((before (rls--text)) (this-command 'ignore))
+          (rls--before-command)
+          (dotimes (_ (1+ (random 12)))
+            (goto-char (1+ (random (1+ (buffer-size)))))
+            (pcase (random 5)
+              (0 (delete-region (point) (min (point-max) (+ (point) 4))))
+              (1 (delete-blank-lines))
+              (2 (just-one-space 0))
+              (3 (transpose-lines 1))
+              (_ (insert (nth (random 4) '("x" " " "\n" "é y"))))))
+          (should (equal (buffer-string) (rls--text)))
+          (when (and (>= rls--version 2) (= 0 (random 3)) (not (equal before (buffer-string))))
+            (rls-undo)
+            (should (equal before (buffer-string)))))))
+    (rls-test-close (list a))))
+
 ;; Folders whose names have what names may have.
 (ert-deftest rls-odd-names ()
   (let* ((top (expand-file-name " a b\n'$HOME\"*\\" (make-temp-file "rls" t)))

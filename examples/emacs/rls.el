@@ -210,7 +210,7 @@ for, then it is stored, and what was answered is written after that."
       (rls--rename-if-due))
     (dotimes (to rls--members)
       (unless (= to rls--me)
-        (rls--send-request (format "s %d" to) nil
+        (rls--send-request (format "s %d%s" to (rls--told to)) nil
                            (lambda (reply message _)
                              (rls--number reply "message")
                              (push (cons to message) messages)))))
@@ -246,7 +246,7 @@ nothing was typed since."
 (defun rls--try (what)
   "Calls WHAT.
 After a fault nothing more is done with the buffer, which keeps what it shows."
-  (when rls--pending (rls--flush))
+  (when rls--parts (rls--flush))
   (unless rls--failed
     (condition-case fault (let ((rls--busy t) (inhibit-quit nil)) (funcall what))
       ;; After a quit the reply to a request may still come, and would be taken for that of another.
@@ -339,7 +339,7 @@ Emacs keeps the hook, and calls it only once somebody has looked at it."
     (add-hook 'after-change-functions #'rls--changed nil t)))
 
 (dolist (function '(rls--before-command rls--changing rls--changed rls--flush rls--save rls--close)) (put function 'permanent-local-hook t))
-(dolist (variable '(rls-mode rls-undo-mode rls--pending rls--waits-until rls--cut rls--replaced rls--edition rls--fault rls--waiting-end rls--typing rls--heard rls--begun rls--opening rls--folder rls--name rls--unsaved rls--since rls--due rls--timer rls--steps rls--boundary
+(dolist (variable '(rls-mode rls-undo-mode rls--parts rls--later-parts rls--waits-until rls--cut rls--replaced rls--edition rls--fault rls--waiting-end rls--typing rls--heard rls--begun rls--opening rls--folder rls--name rls--unsaved rls--since rls--due rls--timer rls--steps rls--boundary
                              rls--typed rls--told rls--behind rls--process rls--version rls--telling rls--given rls--waiting rls--failed
                              rls--shared rls--head rls--group rls--members rls--me rls--seen rls--taken rls--sent rls--last rls--marks
                              rls--looked rls--away rls--changes rls--problems rls--shown rls--place rls--places rls--lookup-due
@@ -374,7 +374,7 @@ What was typed and isn't in the replica is put in again; nothing is deleted,
 since what isn't in the buffer may be of others."
   (rls--end-badly)
   (rls--look-for rls--folder)
-  (setq rls--pending nil rls--unsaved nil rls--behind nil rls--boundary t rls--cut nil rls--taken nil rls--seen nil rls--ahead nil rls--fault nil)
+  (setq rls--parts nil rls--later-parts nil rls--unsaved nil rls--behind nil rls--boundary t rls--cut nil rls--taken nil rls--seen nil rls--ahead nil rls--fault nil)
   (let ((fault rls--failed))
     (setq rls--failed nil)
     (unwind-protect
@@ -390,7 +390,7 @@ since what isn't in the buffer may be of others."
               (unless (equal joined shown)
                 (erase-buffer)
                 (insert joined))
-              (setq rls--pending (list (point-min) (point-max) stored)))))
+              (setq rls--parts (list (list (point-min) (point-max) stored))))))
       (setq rls--failed fault rls--fault (concat "NOT stored: " (replace-regexp-in-string "\\`rls: " "" (or fault "not yet")))))))
 
 (defun rls--joined (text other)

@@ -5,10 +5,10 @@ import path from 'node:path';
 import { RlsError } from './errors.js';
 
 /**
- * The bytes of a regular file; null if nothing is there. A folder that others write into may have a link, a pipe or a folder at a name, or a
+ * The bytes of a regular file, or the first of them; null if nothing is there. A folder that others write into may have a link, a pipe or a folder at a name, or a
  * file that fills the memory: those are an RlsError.
  */
-export async function regular(file, most) {
+export async function regular(file, most, first = most) {
   let handle;
   try {
     handle = await fs.open(file, constants.O_RDONLY | constants.O_NONBLOCK | constants.O_NOFOLLOW);
@@ -20,8 +20,8 @@ export async function regular(file, most) {
     const told = await handle.stat();
     if (!told.isFile()) throw new RlsError(8, `${file} is no file`);
     if (told.size > most) throw new RlsError(11, `${file} has more than ${most} bytes`);
-    const data = Buffer.alloc(told.size);
-    const { bytesRead } = told.size > 0 ? await handle.read(data, 0, told.size, 0) : { bytesRead: 0 };
+    const data = Buffer.alloc(Math.min(told.size, first));
+    const { bytesRead } = data.length > 0 ? await handle.read(data, 0, data.length, 0) : { bytesRead: 0 };
     return data.subarray(0, bytesRead);
   } catch (error) {
     throw error instanceof RlsError ? error : new RlsError(8, error.message);

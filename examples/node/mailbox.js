@@ -9,6 +9,7 @@ import { headOf } from './reports.js';
 import * as tokens from './tokens.js';
 
 const MOST_MESSAGE = 67_108_864;
+const MOST_HEAD = 277; // bytes of the head of a message, where there are 64 members
 const MOST_CURSOR = 65_536; // bytes of a file with a cursor
 const MOST_NAME = 40; // characters of a name beside a cursor
 
@@ -152,6 +153,16 @@ export class Mailbox {
     return false;
   }
 
+  /** What the last message of this member, if it is there, says that it has. */
+  async #told(to) {
+    try {
+      const head = headOf(await regular(this.path(to, this.head.me), MOST_MESSAGE, MOST_HEAD));
+      return head.group === this.head.group && head.members === this.head.members && head.me === to ? head.accepted : null;
+    } catch {
+      return null;
+    }
+  }
+
   /**
    * Stores, and writes what is new. The answer is a list of `{ to, error }` for what couldn't be written, which stops no other member's. It
    * rejects with a Stale while there is a message that counts more of this member's operations than it has made.
@@ -168,7 +179,7 @@ export class Mailbox {
     const failed = [];
     let count = 0;
     for (const to of this.#others()) {
-      const message = await session.message(to);
+      const message = await session.message(to, await this.#told(to));
       const mark = createHash('sha256').update(message).digest('hex');
       if ((await this.#isThere(session, to, message, mark)) || (await this.#isEnough(to, message))) continue;
       try {

@@ -73,9 +73,9 @@ export class Session extends EventEmitter {
   async #begin() {
     this.#program = new Program(this.#command, this.folder, this.#wait);
     this.#given = 0;
-    for (const line of ['v 3', 'v']) this.#put(line);
-    const [newest, old] = [await this.#program.line(), await this.#program.line()];
-    this.#version = newest === 'version 3' ? 3 : old === 'version 2' ? 2 : 1;
+    this.#version = 1;
+    for (const version of [4, 3, 2]) this.#put(version > 2 ? `v ${version}` : 'v');
+    for (const version of [4, 3, 2]) if ((await this.#program.line()) === `version ${version}`) this.#version = Math.max(this.#version, version);
     if (this.#version >= 2 && (await this.#line('c 1')) !== 'telling 1') this.#version = 1;
     this.isUnsaved = false;
   }
@@ -335,18 +335,21 @@ export class Session extends EventEmitter {
     });
   }
 
-  /** The message for a member. What isn't stored may be sent to nobody, since a crash would give its numbers to other edits: so it stores first. */
-  message(to) {
+  /**
+   * The message for a member; since version 4 without what it told that it has, by the counts of its last message, and without its own. What isn't
+   * stored may be sent to nobody, since a crash would give its numbers to other edits: so it stores first.
+   */
+  message(to, told = null) {
     return this.#asked({
       what: async () => {
         if (this.isUnsaved) await this.#store();
-        return this.#message(to);
+        return this.#message(to, this.#version >= 4 ? told : null);
       },
     });
   }
 
-  async #message(to) {
-    const [, count] = await this.#ask(`s ${to}`);
+  async #message(to, told = null) {
+    const [, count] = await this.#ask(`s ${[to, ...(told ?? [])].join(' ')}`);
     return Buffer.from(await this.#program.bytes(Number(count)));
   }
 

@@ -154,7 +154,8 @@ class ByCommands(Room):
         a, b, c = all_three
         forged = boxes[2].path(2, 0)
         for k, (at, byte, told, is_ahead) in enumerate([(12, 9, "is of another text", False), (16, 4, "is of another text", False),
-                                                        (20, 1, "says that it is of member 1", False), (24, 200, "counts 200 operations of member 0", True)]):
+                                                        (20, 1, "says that it is of member 1", False), (24, 5, "counts 5 operations of member 0, who has made 4", True),
+                                                        (24, 200, "counts 200 operations of member 0", True)]):
             message = bytearray(c.message(0))
             message[at] = byte
             with open(forged, "wb") as f:
@@ -165,7 +166,7 @@ class ByCommands(Room):
                 with self.assertRaises(Stale) as raised:
                     boxes[0].sync(a)
                 found = raised.exception.found
-                self.assertIn("7-2-0.rlsm counts 200", str(raised.exception))
+                self.assertIn("7-2-0.rlsm " + told, str(raised.exception))
             else:
                 found, sent = boxes[0].sync(a)
                 self.assertEqual(sent, 2)
@@ -188,6 +189,17 @@ class ByCommands(Room):
         self.assertEqual(boxes[0].sync(a)[1], 1)                # number 2, from which nothing came, has most of it already
         boxes[1].sync(b)
         self.assertEqual(b.text(), a.text())
+
+    def test_no_room_for_a_message(self):
+        """A message that a full replica can't take is taken once there is room, though its file is as it was."""
+        a, b = self.two()
+        boxes = [Mailbox(self.path("shared"), x.head()) for x in (a, b)]
+        a.insert(0, "one")
+        boxes[0].sync(a)
+        with mock.patch.object(b, "take", side_effect=RlsError(11, "too large")):
+            self.assertEqual([(sender, e.status) for sender, e in boxes[1].receive(b)], [(0, 11)])
+        self.assertEqual([sender for sender, _ in boxes[1].receive(b)], [0])
+        self.assertEqual(b.text(), "one")
 
     def test_older_folder(self):
         """A message is written again if the folder comes back as it was before, or empty."""
@@ -385,6 +397,16 @@ class Twice(Room):
         self.assertEqual(sorted(os.listdir(self.path("shared"))), there)
         boxes[0].sync(a)
         self.assertEqual(boxes[0].sync(a), ([], 0))
+
+    def test_token_first(self):
+        """The token is in the shared folder before the first message: whoever is stopped between the two has shown who uses the number."""
+        a, _ = self.two_with_one_number()
+        box, there = Mailbox(self.path("shared"), a.head()), []
+        with mock.patch("rls.mailbox.replace", side_effect=lambda path, _: there.append((path, os.listdir(box.folder)))):
+            box.send(a)
+        path, names = there[0]
+        self.assertEqual(os.path.basename(path), "7-0-1.rlsm")
+        self.assertEqual([name.endswith(".member") for name in names], [True])
 
     def test_between_machines(self):
         """Each has a folder of its own, and a synchroniser copies files between them later: both are told."""

@@ -455,3 +455,52 @@ class WithAnyProgram(Room):
 
 if __name__ == "__main__":
     unittest.main()
+
+
+class ByTold(Room):
+    """Messages by the counts that their receiver told, which the fourth version makes."""
+
+    def both(self):
+        s, t = (self.enterContext(Session(member.folder)) for member in self.two())
+        if s.version < 4:
+            self.skipTest("this program has an older version of the session")
+        return s, t
+
+    def test_what_was_told_is_left_out(self):
+        s, t = self.both()
+        s.insert(0, "one")
+        t.take(s.message(1))
+        s.insert(3, " two")
+        head = Head.of(t.message(0))
+        self.assertEqual(head.counts, (1, 0))
+        self.assertEqual(s.message(1, head.counts), s.message(1, (1, 9)))
+        self.assertLess(len(s.message(1, head.counts)), len(s.message(1)))
+        t.take(s.message(1, head.counts))
+        self.assertEqual(t.text(), "one two")
+        self.assertEqual(Head.of(s.message(1, (9, 0))), Head.of(s.message(1)))
+        for told in (1,), (1, 0, 0):
+            with self.assertRaises(RlsError) as e:
+                s.message(1, told)
+            self.assertEqual(e.exception.status, 4)
+
+    def test_counts_that_are_not_true_lose_nothing(self):
+        s, t = self.both()
+        for k in range(3):
+            s.insert(k, "abc"[k])
+            s.save()
+        self.assertEqual(t.take(s.message(1, (2, 0)))[:4], (0, 0, 0, 1))
+        self.assertEqual(t.take(s.message(1, (0, 0)))[:2], (2, 1))
+        self.assertEqual(t.text(), "abc")
+
+    def test_more_for_each_other_than_a_message_holds(self):
+        with mock.patch.object(limits, "RENAME_AT", 0):
+            s, t = self.both()
+            for member in s, t:
+                for _ in range(65):
+                    member.insert(0, "x" * limits.MOST_CHARACTERS)
+                    member.delete(0, limits.MOST_CHARACTERS)
+            boxes = [(Mailbox(self.path("shared"), member.head()), member) for member in (s, t)]
+            for _ in range(3):
+                for box, member in boxes:
+                    self.assertEqual([report for _, report in box.sync(member)[0] if not hasattr(report, "applied")], [])
+            self.assertEqual((s.head().counts, t.head().counts), ((130, 130), (130, 130)))

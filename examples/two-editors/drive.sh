@@ -149,10 +149,10 @@ play_typing() {
 play_all() {
   local name command=$1 odd=$2
   local -a names=("${@:3}")
-  [ ${#names[@]} -gt 0 ] || names=(random typing undo beside elsewhere cursors places heap mixed away copy empty again kill waiting killed second hang fault apart twice ahead large odd circle words_of_circles)
+  [ ${#names[@]} -gt 0 ] || names=(random typing undo beside elsewhere cursors places heap edges mixed away copy empty again kill waiting killed second hang delays fault apart twice ahead large odd circle words_of_circles)
   for name in "${names[@]}"; do
     case $name in
-      undo | beside | elsewhere | cursors | places | heap | copy) if is_second; then "play_$name" "$command"; else echo "skipped $name: it needs the second version of the session"; fi ;;
+      undo | beside | elsewhere | cursors | places | heap | edges | copy) if is_second; then "play_$name" "$command"; else echo "skipped $name: it needs the second version of the session"; fi ;;
       mixed) if is_third; then play_mixed "$command"; else echo "skipped $name: it needs the third version of the session"; fi ;;
       odd) play_odd "$odd" ;;
       circle | words_of_circles) if has_circles; then "play_$name"; else echo "skipped $name: it needs \`rls share\` and python3"; fi ;;
@@ -375,6 +375,7 @@ give_up() { keys C-c; }
 given_up='given up'
 heap_fill() { keys ':set tw=60' Enter gg gqG; }
 heap_double() { keys ':%s/ /  /g' Enter; }
+halve_indentation() { keys ':2d | %s/^    /  /' Enter; }
 heap_filter() { keys ':%!sed "s/\\<lorem\\>/LOREM/g"' Enter; }
 at_third_line() { type_text '3G0'; }
 shows_name() { :; }

@@ -56,6 +56,32 @@ play_hang() {
   same_texts
 }
 
+# A program that stands still again and again, while somebody types and substitutes and another member writes: each word is there, once, and at its
+# place. $1 begins the editor.
+play_delays() {
+  local round stopping
+  printf '#!/bin/sh\n"%s" "$@"\n' "$RLS" >"$room/rls" && chmod +x "$room/rls"
+  begin_with "${1//"$RLS"/$room\/rls}" 'the end' 'i 0 one tree\ntwo trees\nthe end'
+  (while kill -STOP "$(session_of "$room/ada")" 2>/dev/null; do
+    sleep "$((RANDOM % 3)).$((RANDOM % 10))"
+    kill -CONT "$(session_of "$room/ada")" 2>/dev/null || true
+    sleep "0.$((RANDOM % 10))"
+  done) &
+  stopping=$!
+  for round in 1 2 3 4 5 6; do
+    ben_edits "i 0 bee$round "
+    substitute
+    type_at_end " a$round"
+  done
+  kill "$stopping" && wait "$stopping" || true
+  kill -CONT "$(session_of "$room/ada")"
+  ben_words() { ben_takes; ben_text | tr E e; }
+  wait_for 'all that both wrote while the program stood still again and again' $'bee6 bee5 bee4 bee3 bee2 bee1 one tree\ntwo trees\nthe end a1 a2 a3 a4 a5 a6' ben_words
+  shows 'no fault after that' 'member 0 of 2'
+  leave_editor
+  same_texts
+}
+
 # A disk that is full, and the folder of the replica gone: storing says that it isn't stored, and why, and tries again. $1 begins the editor.
 play_fault() {
   local disk='' long

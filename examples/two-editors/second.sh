@@ -191,6 +191,23 @@ play_heap() {
   for size in 400 5000; do heap "$1" "$size" filter; done
 }
 
+# White space at the edges of what one command changes: it deletes the empty second line, and makes each indentation half as wide; another member who
+# is apart does the same. Both take the same characters away. $1 begins the editor; its test says how by halve_indentation.
+play_edges() {
+  local wanted='alpha\nbeta\n  gamma\n  delta\nend'
+  begin_with "$1" end 'i 0 alpha\n\nbeta\n    gamma\n    delta\nend'
+  hold_back
+  never_idle
+  printf '%b' "$wanted" >"$room/halved"
+  (cd "$room/ben" && "$RLS" edit --text "$room/halved" >/dev/null)
+  halve_indentation
+  store
+  ben_has 'white space that two take away at once goes once' "$(cat "$room/halved")"
+  (cd "$room/ben" && "$RLS" send 0 >"$room/shared/.new" && mv "$room/shared/.new" "$room/shared/7-1-0.rlsm")
+  leave_editor
+  same_texts
+}
+
 # Types as people do: now and then some wrong letters, which are taken back, and a pause before the right ones. Words: a seed, the text.
 type_badly() {
   local text=$2 wrong k n

@@ -124,9 +124,15 @@ class Commands(Editing):
     def ids(self) -> Any:
         return json.loads(self._run("ids")[0])
 
-    def message(self, to: int) -> bytes:
-        """The message for a member: all that it isn't known to have."""
-        return self._run("send", str(to))[0]
+    def message(self, to: int, told: Optional[Sequence[int]] = None) -> bytes:
+        """The message for a member: all that it isn't known to have. If that may be cut off at the greatest size, then without what the member
+        told that it has, by the counts of its last message, and without its own; a session makes that, which stores."""
+        message = self._run("send", str(to))[0]
+        if not told or len(message) < limits.MAY_BE_CUT:
+            return message
+        replies = self._run("session", data=f"v 4\ns {to} {' '.join(map(str, told))}\nq\n".encode("ascii"))[0]
+        version, line, rest = (replies.split(b"\n", 2) + [b"", b""])[:3]
+        return rest[:int(line[8:])] if version == b"version 4" and line.startswith(b"message ") else message
 
     def stat(self) -> Stat:
         """What `rls stat` prints: a word, and its numbers."""

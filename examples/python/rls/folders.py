@@ -37,8 +37,8 @@ def locked(folder: str, wait: float, words: Sequence[str]) -> int:
             raise RlsError(7, f"{folder} can't be locked: {e.strerror}", words) from None
 
 
-def regular(path: str, most: int) -> Optional[bytes]:
-    """The bytes of a regular file, or None if nothing is there. A folder that others write into may have anything at a name: a link to
+def regular(path: str, most: int, first: Optional[int] = None) -> Optional[bytes]:
+    """The bytes of a regular file, or the first of them, or None if nothing is there. A folder that others write into may have anything at a name: a link to
     a file elsewhere, a pipe from which nothing ever comes, a folder, a file that fills the memory. Those are an RlsError."""
     try:
         fd = os.open(path, os.O_RDONLY | os.O_NONBLOCK | os.O_NOFOLLOW | os.O_CLOEXEC)
@@ -52,7 +52,7 @@ def regular(path: str, most: int) -> Optional[bytes]:
             raise RlsError(8, f"{path} is no file", ("take",))
         data = bytearray()
         while told.st_size <= most and len(data) <= most:
-            more = os.read(fd, most + 1 - len(data))
+            more = os.read(fd, (most + 1 if first is None else first) - len(data))
             if not more:
                 return bytes(data)
             data += more

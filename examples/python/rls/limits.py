@@ -6,6 +6,7 @@ RENAME_AT = int(os.environ.get("RLS_RENAME_AT", "500"))     # runs of identifier
 MOST_CHARACTERS = 1_048_576          # of one insertion
 MOST_DELETED = 4_194_304             # of one deletion
 MOST_INPUT = 67_108_864              # of one command, and of what one session reads before it stores
+MAY_BE_CUT = 50_331_648              # from so many bytes on a message may have been cut off: one operation more could be too much
 MOST_WAIT = 30.0                     # seconds that a call which stores waits for another program in the same folder
 REST, MOST_REST = 1.0, 3.0           # seconds from the last change that was typed to a store, and at most from the first one
 HOLD = 3.0                           # the same, if the last change took something away: what is put in its place comes then

@@ -17,6 +17,7 @@ from .stored import state_of
 Replica = Union[Commands, Session]
 Found = List[Tuple[int, Union[Report, RlsError]]]
 MOST_CURSOR = 65_536        # bytes of a file with a cursor
+MOST_HEAD = 277             # bytes of the head of a message, where there are 64 members
 MOST_NAME = 40              # characters of a name beside a cursor
 SYNCED = "replica.synced"   # what both folders were like when all was taken and sent
 
@@ -144,6 +145,14 @@ class Mailbox:
             raise UsedTwice.by(path, own, "it has more operations of this number than this replica has made")
         return False
 
+    def _told(self, to: int) -> Optional[Tuple[int, ...]]:
+        """What the last message of this member, if it is there, says that it has."""
+        try:
+            head = Head.of(regular(self.path(to, self.me), limits.MOST_INPUT, MOST_HEAD) or b"")
+        except (RlsError, ValueError, struct.error):
+            return None
+        return head.counts if (head.group, head.members, head.sender) == (self.group, self.members, to) else None
+
     def send(self, replica: Replica) -> int:
         """To how many members something new was written. What one member's name has that can't be replaced stops no other's: a warning
         says so once."""
@@ -154,7 +163,7 @@ class Mailbox:
         for to in range(self.members):
             if to == self.me:
                 continue
-            message = replica.message(to)
+            message = replica.message(to, self._told(to))
             mark = hashlib.sha256(message).digest()
             own = own or replica.head()
             if self._is_there(to, message, mark, own) or self.is_enough(to, message):

@@ -52,9 +52,9 @@ class Session(Editing):
         self.given, self.unsaved = 0, False
 
     def _asked_version(self) -> int:
-        self._put(b"v 3\nv\n")
-        newest, old = self._line(), self._line()
-        return 3 if newest == "version 3" else 2 if old == "version 2" else 1
+        self._put(b"v 4\nv 3\nv\n")
+        newest, third, old = self._line(), self._line(), self._line()
+        return 4 if newest == "version 4" else 3 if third == "version 3" else 2 if old == "version 2" else 1
 
     def _release(self) -> None:
         if self.stored.held is not None:
@@ -255,11 +255,13 @@ class Session(Editing):
         self._edited(report.applied + report.released)
         return report
 
-    def message(self, to: int) -> bytes:
-        """The message for a member: all that it isn't known to have. It stores first if that is needed."""
+    def message(self, to: int, told: Optional[Sequence[int]] = None) -> bytes:
+        """The message for a member: all that it isn't known to have; since version 4 without what it told that it has, by the counts of its
+        last message, and without its own. It stores first if that is needed."""
         if self.safe and self.unsaved:
             self.save()
-        return self._bytes(int(self._ask(f"s {to}")[1]))
+        words = [to, *told] if told and self.version >= 4 else [to]
+        return self._bytes(int(self._ask("s " + " ".join(map(str, words)))[1]))
 
     def stat(self) -> Stat:
         """What `rls stat` prints, of the replica as it is now. Version 2."""

@@ -55,7 +55,9 @@ function M:tell(first, last, new)
       new = vim.list_extend(vim.list_extend({}, new), { old[#old] })
     end
   end
-  local gone, come = table.concat(old, '\n'), table.concat(new, '\n')
+  local before = self:lines_before(first, old[1], new[1])
+  first, old = first - #before, vim.list_extend(vim.list_extend({}, before), old)
+  local gone, come = table.concat(old, '\n'), table.concat(vim.list_extend(before, new), '\n')
   if gone == come then return end
   local at = self.lines:place(first, 0)
   local places, is_coarse = compared(gone, come, self.options.compare)
@@ -71,6 +73,17 @@ function M:tell(first, last, new)
   if is_coarse then say('rls: a change this large was compared line by line, not word by word') end
   if #places > 2 * MOST_STEPS then say(('rls: of %d places that were changed, u takes back the last 10,000'):format(#places)) end
   self:is_edited()
+end
+
+-- If the white space changes with which a line begins, it is one piece with that before it: so the lines before it are compared, too, back to one
+-- with a word.
+function M:lines_before(first, old, new)
+  local spaces, word = old:match('^([\t-\r ]*)(.?)')
+  local others, other = new:match('^([\t-\r ]*)(.?)')
+  if spaces == others and word ~= '' and other ~= '' then return {} end
+  local from = first - 1
+  while from > 0 and not self.lines:get(from):find('[^\t-\r ]') do from = from - 1 end
+  return self.lines:slice(math.max(from, 0), first)
 end
 
 -- Ends the group of undo, if another command begins or the group has enough steps.

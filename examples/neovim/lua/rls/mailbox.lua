@@ -44,6 +44,16 @@ function M:counts_ahead(message, from)
   return true
 end
 
+-- What the last message that was taken of a member says that it has, a space before each count: with the fourth version of the session that is left
+-- out of what is sent to it. '' if there is none.
+function M:counts_of(to)
+  local message = self.taken[to]
+  if self.version < 4 or not message or #message < 21 + 4 * self.members or message:sub(1, 4) ~= 'RLSM' then return '' end
+  local counts = {}
+  for k = 0, self.members - 1 do counts[k + 1] = ' ' .. files.u32(message, 21 + 4 * k) end
+  return table.concat(counts)
+end
+
 -- A member's message is no longer in the way of sending.
 function M:pass(from)
   if self.ahead[from] then self.ahead[from], self.is_stopped = nil, true end

@@ -52,10 +52,12 @@ end
 function Replica:start(is_opening)
   self.session = Session.start(self.options.program, self.folder, is_opening)
   self.session.before = function() self:flush() end
-  local third
-  self.session:send('v 3', nil, function(reply) third = reply == 'version 3' end)
+  local newest = 2
+  for version = 3, 4 do
+    self.session:send('v ' .. version, nil, function(reply) if reply == 'version ' .. version then newest = version end end)
+  end
   self.session.telling = self.session:ask('v') == 'version 2' and self.session:ask('c 1') == 'telling 1'
-  self.version = not self.session.telling and 1 or third and 3 or 2
+  self.version = not self.session.telling and 1 or newest
 end
 
 -- Which member this is: the head of a message tells it. A message to oneself has a head alone.
@@ -289,7 +291,7 @@ function Replica:send()
     self:rename_if_due()
   end
   for to = 0, self.members - 1 do
-    if to ~= self.me then self.session:send('s ' .. to, nil, function(_, message) messages[to] = message end) end
+    if to ~= self.me then self.session:send('s ' .. to .. self:counts_of(to), nil, function(_, message) messages[to] = message end) end
   end
   local function write()
     self:write(messages)

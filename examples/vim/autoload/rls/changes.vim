@@ -1,5 +1,6 @@
 " From the buffer to the session: what was changed in the buffer is compared with what was there, and handed on place by place.
 let s:most_steps = 5000                         " edits that are undone at once: a session forgets a group that has more than 10,000
+let s:spaces = '^[\x09\x0b-\x0d ]*'           " a line feed in a line of Vim is the character 0
 
 " From now on each change of the buffer is handed on.
 function rls#changes#listen(r) abort
@@ -61,7 +62,9 @@ function s:hand(r, first, old, new) abort
       let new += [old[-1]]
     endif
   endif
-  let [gone, come] = [rls#lines#characters(old), rls#lines#characters(new)]
+  let before = s:before(a:r.text.lines, first, old[0], new[0])
+  let first -= len(before)
+  let [gone, come] = [rls#lines#characters(before + old), rls#lines#characters(before + new)]
   if gone ==# come
     return
   endif
@@ -86,6 +89,20 @@ function s:hand(r, first, old, new) abort
     echomsg printf('rls: of %d places that were changed, u takes back the last 10,000', len(places))
   endif
   call rls#exchange#is_edited(a:r, 0)
+endfunction
+
+" If the white space changes with which a line begins, it is one piece with that before it: so the lines before it are compared, too, back to one with
+" a word.
+function s:before(lines, first, old, new) abort
+  let spaces = matchstr(a:old, s:spaces)
+  if spaces ==# matchstr(a:new, s:spaces) && len(spaces) < len(a:old) && len(spaces) < len(a:new)
+    return []
+  endif
+  let from = a:first - 1
+  while from > 1 && a:lines[from - 1] =~# s:spaces . '$'
+    let from -= 1
+  endwhile
+  return from > 0 ? a:lines[from - 1 : a:first - 2] : []
 endfunction
 
 " Ends the group of undo, if another command begins or the group has enough steps.

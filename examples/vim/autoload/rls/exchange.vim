@@ -113,7 +113,7 @@ function s:send(r) abort
     call s:rename_if_due(a:r)
   endif
   for to in filter(range(a:r.members), {_, k -> k != a:r.me})
-    call rls#session#send(a:r, 's ' . to, 0z, function('s:keep', [messages, to]))
+    call rls#session#send(a:r, 's ' . to . rls#mailbox#told(a:r, to), 0z, function('s:keep', [messages, to]))
   endfor
   if a:r.version == 1
     call rls#session#drain(a:r)

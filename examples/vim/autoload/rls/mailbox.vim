@@ -64,6 +64,16 @@ function s:is_ahead(r, message, from) abort
   return 1
 endfunction
 
+" What the last message that was taken of a member says that it has, a space before each count: with the fourth version of the session that is left
+" out of what is sent to it. '' if there is none.
+function rls#mailbox#told(r, to) abort
+  let message = get(a:r.taken, a:to, 0z)
+  if a:r.version < 4 || len(message) < 21 + 4 * a:r.members || message[0:3] != 0z524C534D
+    return ''
+  endif
+  return join(map(range(a:r.members), {_, k -> ' ' . rls#files#u32(message, 21 + 4 * k)}), '')
+endfunction
+
 " A member's message is no longer in the way of sending.
 function s:pass(r, from) abort
   if has_key(a:r.ahead, a:from)

@@ -6,10 +6,12 @@ function rls#session#start(r) abort
   let a:r.errors = get(a:r, 'errors', tempname())
   let a:r.job = job_start([g:rls_program, 'session'], {'cwd': a:r.folder, 'mode': 'raw', 'noblock': 1, 'drop': 'never', 'err_io': 'file', 'err_name': a:r.errors})
   let [a:r.have, a:r.at, a:r.waiting, a:r.telling, a:r.given, a:r.heard, a:r.is_begun] = [0z, 0, [], 0, 0, reltime(), 0]
-  let third = []
-  call rls#session#put(a:r, 'v 3', 0z, {reply, _, __ -> add(third, reply)})
+  let newest = []
+  for version in ['v 3', 'v 4']
+    call rls#session#put(a:r, version, 0z, {reply, _, __ -> add(newest, reply)})
+  endfor
   let a:r.telling = rls#session#ask(a:r, 'v')[0] ==# 'version 2' && rls#session#ask(a:r, 'c 1')[0] ==# 'telling 1'
-  let a:r.version = !a:r.telling ? 1 : third == ['version 3'] ? 3 : 2
+  let a:r.version = !a:r.telling ? 1 : 2 + count(newest, 'version 3') + count(newest, 'version 4')
 endfunction
 
 " Whether other requests can be sent: if not, the program says why.
