@@ -231,8 +231,12 @@ class Replica:
 
     # messages
 
-    def message(self, to):
+    def message(self, to, told=()):
+        """For a member; with what it told, the counts of the head of its last message, as a session's `s TO COUNT ..` has it."""
         row = self.vector if to == self.me else self.rows[to]
+        if told:
+            row = [max(pair) for pair in zip(row, told)]
+            row[to] = max(row[to], self.vector[to])
         out, size = [], 25 + 4 * self.members
         for o in self.unstable():
             if o.seq > row[o.author]:

@@ -344,10 +344,10 @@ class Session:
             if alone and word in ("t", "n"):
                 data = ("".join(rep.chars) if word == "t" else S.stat_of(rep)).encode()
                 return b"%s %d\n%s\n" % (b"text" if word == "t" else b"stat", len(data), data)
-            if word == "s" and len(numbers) == 1 and n is not None and n <= S.M32:
+            if word == "s" and len(numbers) in (1, 1 + rep.members) and all(k is not None and k <= S.M32 for k in numbers):
                 if n >= rep.members:
                     raise S.Refused(f"not a member {n}")
-                data = rep.message(n)
+                data = rep.message(n, numbers[1:])
                 return b"message %d\n%s\n" % (len(data), data)
             return (self.line(word, alone, rest, n, numbers) + "\n").encode()
         except S.Refused as e:
@@ -357,7 +357,7 @@ class Session:
         S, rep = self.S, self.rep
         if alone and word == "v":
             return "version 2"
-        if word == "v" and rest in ("1", "2", "3"):
+        if word == "v" and rest in ("1", "2", "3", "4"):
             return f"version {rest}"
         if alone and word == "g":
             self.is_open = False
