@@ -4,7 +4,6 @@ pub mod Cutting
 pub mod Played
 pub mod Own
 pub mod Told
-pub mod Courses
 pub mod Looking
 pub mod Calls
 pub mod Alike

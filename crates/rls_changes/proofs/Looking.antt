@@ -1,6 +1,6 @@
 -- Where what an operation changes is found.
-use Rattle.std.proofs.Common.{◌≡◌, ℕ, zero, suc, ◌+◌, ◌-◌, ◌<◌, ◌≤◌, true, false, List, [], ◌∷◌, ◌++◌, map, length, take, drop, Some, Ok, Err, slice_get, refl, sym, ap, ◌∙◌, subst, arith}
-use Rattle.std.specs.Prelude.{max, nat_lt, slice_index, zip, None}
+use Rattle.std.proofs.Common.{◌≡◌, ℕ, zero, suc, ◌+◌, ◌-◌, ◌<◌, ◌≤◌, true, false, List, [], ◌∷◌, ◌++◌, map, length, take, drop, Some, Ok, Err, slice_get, refl, sym, ap, ◌∙◌, subst, arith, IsTrue}
+use Rattle.std.specs.Prelude.{max, nat_lt, zip, None}
 use Rattle.std.proofs.lemmas.List.{length-drop, length-map, length-take-le, take_all, take-append-drop, take-map, drop-map, drop-take}
 use Rattle.std.proofs.lemmas.Option.{slice_get_within}
 use Rattle.std.proofs.lemmas.Slice.Zip.{firsts-zip, seconds-zip}
@@ -20,10 +20,8 @@ use Rattle.rls_runs.proofs.RunOrder.{AllLess, AllMore, Rising, less_trans, more_
 use Rattle.rls_runs.proofs.RunPlaces.{tells_append, tells_less, tells_more}
 use Rattle.rls_ident.specs.declared.limits.TheConstants.{CHARACTERS}
 use Rattle.rls_ident.specs.declared.epoch_name.EpochName.{EpochName}
-use Rattle.rls_ident.specs.Vectors.{at_most}
 use Rattle.rls_ident.proofs.Members.{not_lt_is}
 use Rattle.rls_ops.specs.declared.op.Op.{Op}
-use Rattle.rls_ops.specs.declared.op.Shape.{Shape}
 use Rattle.rls_ops.specs.declared.op.Body.TheVariants as body
 use Rattle.rls_ops.specs.Shapes.{body_len, body_limit, shape_fault}
 use Rattle.rls_ops.proofs.Shaped.{shaped}
@@ -33,7 +31,7 @@ use Rattle.rls_seen.proofs.EditedText.{take_drop_drop}
 use Rattle.rls_seen.specs.Over.{placed_over}
 use Rattle.rls_seen.specs.Sane.{MayApply}
 use Rattle.rls_seen.proofs.Fitting.{facts}
-use Rattle.rls_seen.specs.Seen.{Seen, idents_over, members, vector}
+use Rattle.rls_seen.specs.Seen.{Seen, idents_over}
 use Rattle.rls_changes.specs.declared.change.Change.{Change}
 use Rattle.rls_changes.specs.declared.change.Change.TheVariants.{Insert, Delete}
 use Rattle.rls_changes.specs.Changes.{deleted_by, with_change, with_changes, changes_by, cuts, puts}
@@ -315,17 +313,8 @@ stretch_same xs ts there at place most n e room within few f =
 
 -- ---- what an operation that may be applied has
 
-pub not_new : (s : Seen) (o : Op) → o.seq ≤ slice_index (vector s) o.author → MayApply s o → ⊥
-not_new s o l m = let a = m.above in absurd (omega arith)
-
-pub not_caused : (s : Seen) (o : Op) → at_most o.context (vector s) ≡ false → MayApply s o → ⊥
-not_caused s o e m = let a = m.causes in absurd (cc)
-
-pub not_kept : (s : Seen) (o : Op) → keeps s o.epoch ≡ false → MayApply s o → ⊥
-not_kept s o e m = let k = (facts s o m).kept in absurd (cc)
-
-pub not_shaped : (s : Seen) (o : Op) (f : Shape) → shape_fault (members s) o ≡ Some f → MayApply s o → ⊥
-not_shaped s o f e m = let k = m.shape in absurd (cc)
+pub epoch_kept : (s : Seen) (o : Op) → MayApply s o → IsTrue (keeps s o.epoch)
+epoch_kept s o m = (facts s o m).kept
 
 -- no more characters than an insertion may have
 pub few_chars : (n : ℕ) (o : Op) (first : List Tuple) (text : List ℕ) → shape_fault n o ≡ None → o.body ≡ body.Insert first text → length text ≤ CHARACTERS

@@ -20,10 +20,11 @@ use Rattle.rls_seen.proofs.Receiving.{applies}
 use Rattle.rls_seen.proofs.Releasing.{first_alike}
 use Rattle.rls_seen.proofs.Staying.{ready_may, received_sane, released_sane}
 use Rattle.rls_seen.proofs.Taking.{op_in}
+use Rattle.rls_replica.specs.Watching.{if_applied, if_fits, Told, told_at}
 use Rattle.rls_changes.specs.declared.change.Change.{Change}
 use Rattle.rls_changes.specs.Changes.{changes_over, changes_in}
 use Rattle.rls_changes.specs.ChangesLaws.{TakenAlike, ReleasedAlike}
-use Rattle.rls_changes.specs.Telling.{if_applied, if_fits, received_changes, received_changes_in, ready_changes, ready_changes_in, released_changes, released_changes_in, times_changes, times_changes_in, all_released_changes, all_released_changes_in, Told, told_at, tells_parts, tells_history, told_within, told_in}
+use Rattle.rls_changes.specs.Telling.{received_changes, received_changes_in, ready_changes, ready_changes_in, released_changes, released_changes_in, times_changes, times_changes_in, all_released_changes, all_released_changes_in, tells_parts, tells_history, told_within, told_in}
 use Rattle.rls_changes.proofs.Alike.{changes_alike}
 
 -- ---- one step
@@ -77,11 +78,11 @@ released_alike s t sane h = times_alike (length s.waiting) s t sane h ∙ ap (λ
 
 -- ---- a message
 
-abbrev Both : Told Seen → Told State → Type 0
-Both t u = IsSane t.state × StandsFor t.state u.state × (t.changes ≡ u.changes)
+abbrev Both : Told Seen Change → Told State Change → Type 0
+Both t u = IsSane t.state × StandsFor t.state u.state × (t.told ≡ u.told)
 
-abbrev Same : Told Seen → Told State → Type 0
-Same t u = t.changes ≡ u.changes
+abbrev Same : Told Seen Change → Told State Change → Type 0
+Same t u = t.told ≡ u.told
 
 both_more : (cs ds es fs : List Change) → cs ≡ ds → es ≡ fs → cs ++ es ≡ ds ++ fs
 both_more cs ds es fs h k = ap (λ zs. zs ++ es) h ∙ ap (λ zs. ds ++ zs) k
@@ -92,14 +93,14 @@ telling_agrees = record {
   receives = λ t u o w h. (
     received_sane t.state o h.0 w.0 w.1,
     machines_agree.0.receives t.state u.state o w.0 h.1,
-    both_more t.changes u.changes (received_changes t.state o) (received_changes_in u.state o) h.2 (received_alike t.state u.state o h.1 w.0),
+    both_more t.told u.told (received_changes t.state o) (received_changes_in u.state o) h.2 (received_alike t.state u.state o h.1 w.0),
   );
   waiting = λ t u h. h.1.waiting;
   next_releases = λ t u h. machines_agree.0.next_releases t.state u.state h.1;
   releases = λ t u h. (
     released_sane t.state h.0,
     machines_agree.0.releases t.state u.state h.1,
-    both_more t.changes u.changes (released_changes t.state) (released_changes_in u.state) h.2 (step_alike t.state u.state h.0 h.1),
+    both_more t.told u.told (released_changes t.state) (released_changes_in u.state) h.2 (step_alike t.state u.state h.0 h.1),
   );
 }
 

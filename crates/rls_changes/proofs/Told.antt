@@ -1,16 +1,14 @@
 -- A machine that tells its changes does what it does without telling them, and its changes lead from text to text.
-use Rattle.std.proofs.Common.{◌≡◌, ◌∙◌, ℕ, false, List, [], ◌++◌, Option, Some, None, refl, sym, ap, subst, append_assoc}
-use Rattle.std.proofs.lemmas.List.{append-nil}
+use Rattle.std.proofs.Common.{◌≡◌, ◌∙◌, ℕ, false, List, [], ◌∷◌, ◌++◌, Option, Some, None, refl, sym, ap}
 use Rattle.rls_ops.specs.declared.op.Op.{Op}
+use Rattle.rls_ops.specs.declared.message.Message.{Message}
 use Rattle.rls_ops.specs.WellFormed.{IsInRange}
-use Rattle.rls_model.specs.declared.receipt.Taken.{Taken}
 use Rattle.rls_model.specs.Answers.{Reason, Answer, Applies, Repeats, Waits, Refuses}
 use Rattle.rls_model.specs.Machine.{started, acknowledge_on, take_on}
-use Rattle.rls_model.specs.MachineLaws.{StepsAgree, StepsKeep, IsAlike}
+use Rattle.rls_model.specs.MachineLaws.{StepsKeep}
 use Rattle.rls_model.specs.WellFormed.{IsOp}
-use Rattle.rls_model.proofs.Machines.{acknowledge_alike, acknowledge_keeps, states_after_ops, taking_alike}
-use Rattle.rls_seen.specs.Messages.{by_parts, taken_within}
-use Rattle.rls_seen.specs.Over.{after_answer, after_refusal, after_release, answer_over, first_ready, holding, received, refusal_over, release_over, released, acknowledged}
+use Rattle.rls_model.proofs.Machines.{acknowledge_keeps, states_after_ops}
+use Rattle.rls_seen.specs.Over.{after_answer, after_refusal, after_release, answer_over, first_ready, holding, received, refusal_over, released, acknowledged}
 use Rattle.rls_seen.specs.Sane.{IsSane}
 use Rattle.rls_seen.specs.Seen.{Seen, text_over}
 use Rattle.rls_seen.proofs.Receiving.{applies}
@@ -18,55 +16,18 @@ use Rattle.rls_seen.proofs.Staying.{ready_may, received_sane, released_sane}
 use Rattle.rls_seen.proofs.Taking.{op_in}
 use Rattle.rls_changes.specs.declared.change.Change.{Change}
 use Rattle.rls_changes.specs.Changes.{played, changes_over}
-use Rattle.rls_changes.specs.Telling.{if_applied, if_fits, received_changes, ready_changes, released_changes, Told, told_at, told_on, tells_parts, told_course, told_within}
+use Rattle.rls_replica.specs.Watching.{if_applied, if_fits, Told, told_at, told_on, watched_within, taken_told, all_released_told, Step, Receives, Releases, Notes, after_step, step_told, IsStep, Leads, IsTold}
+use Rattle.rls_replica.proofs.Told.{watched_beside}
+use Rattle.rls_changes.specs.Telling.{received_changes, ready_changes, released_changes, all_released_changes, taken_changes, tells_parts, told_within}
 use Rattle.rls_changes.specs.ChangesLaws.{Lead, TellsBeside, TakenPlayed}
 use Rattle.rls_changes.proofs.Joining.{played_append}
 use Rattle.rls_changes.proofs.Played.{changes_played}
 
 -- ---- the same without telling
 
-abbrev pub Beside : Told Seen → Seen → Type 0
-Beside t u = t.state ≡ u
-
-pub beside : StepsAgree tells_parts by_parts (λ o. Unit {0}) Beside
-beside = record {
-  answers = λ t u o w h. ap (λ x. answer_over false x o) h;
-  receives = λ t u o w h. ap (λ x. received x o) h;
-  waiting = λ t u h. ap (λ (x : Seen). x.waiting) h;
-  next_releases = λ t u h. ap (λ x. release_over x) h;
-  releases = λ t u h. ap released h;
-}
-
 pub tells_beside : TellsBeside
-unfolding told_within taken_within
-tells_beside limit s m =
-    let p = take_on tells_parts (started limit (told_at s)) m.ops in
-    let q = take_on by_parts (started limit s) m.ops in
-    let a = taking_alike Beside tells_parts by_parts (λ o. Unit {0}) beside m.ops (started limit (told_at s)) (started limit s) (λ o u. tt) (record { states = refl; limit = refl; counts = refl }) in
-    acknowledge_alike Beside tells_parts by_parts p q m.from m.vector (ap (λ x. acknowledged x m.from m.vector) a.states) a
-
--- ---- with other changes before
-
-abbrev pub Behind : List Change → Told Seen → Told Seen → Type 0
-Behind before t u = (t.state ≡ u.state) × (t.changes ≡ before ++ u.changes)
-
-later : (before cs ds : List Change) (s r : Seen) (f : Seen → List Change) → s ≡ r → cs ≡ before ++ ds → cs ++ f s ≡ before ++ (ds ++ f r)
-later before cs ds s r f h k = ap (λ x. cs ++ f x) h ∙ (ap (λ zs. zs ++ f r) k ∙ append_assoc before ds (f r))
-
-pub behind : (before : List Change) → StepsAgree tells_parts tells_parts (λ o. Unit {0}) (Behind before)
-behind before = record {
-  answers = λ t u o w h. ap (λ x. answer_over false x o) h.0;
-  receives = λ t u o w h. (ap (λ x. received x o) h.0, later before t.changes u.changes t.state u.state (λ x. received_changes x o) h.0 h.1);
-  waiting = λ t u h. ap (λ (x : Seen). x.waiting) h.0;
-  next_releases = λ t u h. ap (λ x. release_over x) h.0;
-  releases = λ t u h. (ap released h.0, later before t.changes u.changes t.state u.state released_changes h.0 h.1);
-}
-
-pub starts_behind : (s : Seen) (t : Taken) (cs : List Change) → IsAlike (Behind cs) (told_course s t cs) (told_course s t [])
-starts_behind s t cs = record { states = (refl, sym (append-nil cs)); limit = refl; counts = refl }
-
-pub ops_behind : (s : Seen) (t : Taken) (cs : List Change) (os : List Op) → IsAlike (Behind cs) (take_on tells_parts (told_course s t cs) os) (take_on tells_parts (told_course s t []) os)
-ops_behind s t cs os = taking_alike (Behind cs) tells_parts tells_parts (λ o. Unit {0}) (behind cs) os (told_course s t cs) (told_course s t []) (λ o u. tt) (starts_behind s t cs)
+unfolding told_within watched_within
+tells_beside limit s m = watched_beside changes_over limit s m
 
 -- ---- from text to text
 
@@ -101,11 +62,11 @@ unfolding acknowledged
 acknowledged_text s a v = refl
 
 -- the changes lead from this text to that of the state, which is sane
-abbrev Plays : List ℕ → Told Seen → Type 0
-Plays text t = IsSane t.state × (played t.changes text ≡ text_over t.state)
+abbrev Plays : List ℕ → Told Seen Change → Type 0
+Plays text t = IsSane t.state × (played t.told text ≡ text_over t.state)
 
-on_plays : (text : List ℕ) (t : Told Seen) (s : Seen) (cs : List Change) → Plays text t → IsSane s → played cs (text_over t.state) ≡ text_over s → Plays text (told_on t s cs)
-on_plays text t s cs h sane k = (sane, played_append t.changes cs text ∙ (ap (played cs) h.1 ∙ k))
+on_plays : (text : List ℕ) (t : Told Seen Change) (s : Seen) (cs : List Change) → Plays text t → IsSane s → played cs (text_over t.state) ≡ text_over s → Plays text (told_on t s cs)
+on_plays text t s cs h sane k = (sane, played_append t.told cs text ∙ (ap (played cs) h.1 ∙ k))
 
 steps_play : (text : List ℕ) → StepsKeep tells_parts (λ o. IsOp o × IsInRange o.body) (Plays text)
 steps_play text = record {
@@ -118,33 +79,34 @@ unfolding told_within
 taken_played limit s m sane w r =
     let p = take_on tells_parts (started limit (told_at s)) m.ops in
     let ops : Plays (text_over s) p.state = states_after_ops tells_parts (λ o. IsOp o × IsInRange o.body) (Plays (text_over s)) (steps_play (text_over s)) m.ops (started limit (told_at s)) (λ o u. (op_in m.ops o w.ops u, r o u)) (sane, refl) in
-    let last : played (acknowledge_on tells_parts p m.from m.vector).state.changes (text_over s) ≡ text_over (acknowledge_on tells_parts p m.from m.vector).state.state =
-    acknowledge_keeps tells_parts (λ (t : Told Seen). played t.changes (text_over s) ≡ text_over t.state) p m.from m.vector (ops.1 ∙ sym (acknowledged_text p.state.state m.from m.vector)) ops.1 in
+    let last : played (acknowledge_on tells_parts p m.from m.vector).state.told (text_over s) ≡ text_over (acknowledge_on tells_parts p m.from m.vector).state.state =
+    acknowledge_keeps tells_parts (λ (t : Told Seen Change). played t.told (text_over s) ≡ text_over t.state) p m.from m.vector (ops.1 ∙ sym (acknowledged_text p.state.state m.from m.vector)) ops.1 in
     last ∙ ap (λ (u : Seen). text_over u) (tells_beside limit s m).states
 
 -- ---- for calls
 
-pub nothing_leads : (cs : List Change) (text : List ℕ) → Lead cs cs text text
-nothing_leads cs text = record { fresh = []; added = sym (append-nil cs); leads = refl }
+-- one step
+step_plays : (s : Seen) (x : Step) → IsSane s → IsStep x → played (step_told changes_over s x) (text_over s) ≡ text_over (after_step s x)
+step_plays s (Receives o) sane w = received_plays s o sane w
+step_plays s Releases sane w = released_plays s sane
+step_plays s (Notes a v) sane w = sym (acknowledged_text s a v)
 
-pub more_leads : (cs fresh : List Change) (before after : List ℕ) → played fresh before ≡ after → Lead cs (cs ++ fresh) before after
-more_leads cs fresh before after h = record { fresh = fresh; added = refl; leads = h }
+steps_lead : (xs : List Step) (s u : Seen) (cs : List Change) → Leads changes_over xs s u cs → played cs (text_over s) ≡ text_over u
+steps_lead [] s u cs h = ap (λ zs. played zs (text_over s)) h.1 ∙ ap (λ (r : Seen). text_over r) (sym h.0)
+steps_lead (x ∷ xs) s u cs h =
+    ap (λ zs. played zs (text_over s)) h.3
+    ∙ (played_append (step_told changes_over s x) h.2 (text_over s)
+    ∙ (ap (played h.2) (step_plays s x h.0 h.1) ∙ steps_lead xs (after_step s x) u h.2 h.4))
 
-pub leads_on : (cs ds es : List Change) (a b c : List ℕ) → Lead cs ds a b → Lead ds es b c → Lead cs es a c
-leads_on cs ds es a b c h k = record {
-  fresh = h.fresh ++ k.fresh;
-  added = k.added ∙ (ap (λ zs. zs ++ k.fresh) h.added ∙ append_assoc cs h.fresh k.fresh);
-  leads = played_append h.fresh k.fresh a ∙ (ap (played k.fresh) h.leads ∙ k.leads);
-}
+-- what is told of the steps that were made leads from text to text
+pub told_leads : (s u : Seen) (bs cs ds : List Change) → bs ≡ cs → IsTold changes_over s u bs ds → Lead cs ds (text_over s) (text_over u)
+told_leads s u bs cs ds e h = record { fresh = h.fresh; added = h.added ∙ ap (λ zs. zs ++ h.fresh) e; leads = steps_lead h.steps s u h.fresh h.led }
 
--- an acknowledgement leads no further
-pub acknowledged_leads : (cs ds : List Change) (s r u : Seen) (a : ℕ) (v : List ℕ) → Lead cs ds (text_over s) (text_over r) → u ≡ acknowledged r a v → Lead cs ds (text_over s) (text_over u)
-acknowledged_leads cs ds s r u a v h e = subst (λ text. Lead cs ds (text_over s) text) (sym (ap (λ (x : Seen). text_over x) e ∙ acknowledged_text r a v)) h
+-- the words of this crate are those of a watcher that tells changes
+pub all_told : (s : Seen) (bs cs ds : List Change) → bs ≡ cs → ds ≡ bs ++ all_released_told changes_over s → ds ≡ cs ++ all_released_changes s
+unfolding all_released_told all_released_changes
+all_told s bs cs ds e h = h ∙ ap (λ zs. zs ++ all_released_told changes_over s) e
 
--- what is put after the others leads where the replica went
-pub lead_by : (cs ds fresh : List Change) (s r u : Seen) → ds ≡ cs ++ fresh → u ≡ r → played fresh (text_over s) ≡ text_over r → Lead cs ds (text_over s) (text_over u)
-lead_by cs ds fresh s r u e f h = record { fresh = fresh; added = e; leads = h ∙ ap (λ (x : Seen). text_over x) (sym f) }
-
--- nothing has changed
-pub stays_by : (cs ds : List Change) (s u : Seen) → ds ≡ cs → u ≡ s → Lead cs ds (text_over s) (text_over u)
-stays_by cs ds s u e f = record { fresh = []; added = e ∙ sym (append-nil cs); leads = ap (λ (x : Seen). text_over x) (sym f) }
+pub message_told : (s : Seen) (m : Message) (bs cs ds : List Change) → bs ≡ cs → ds ≡ bs ++ taken_told changes_over s m → ds ≡ cs ++ taken_changes s m
+unfolding watched_within told_within
+message_told s m bs cs ds e h = h ∙ ap (λ zs. zs ++ taken_told changes_over s m) e

@@ -22,7 +22,8 @@ use Rattle.rls_replica.specs.Names.{keeps}
 use Rattle.rls_changes.specs.declared.change.Change.{Change}
 use Rattle.rls_changes.specs.declared.change.Change.TheVariants.{Insert, Delete}
 use Rattle.rls_changes.specs.Changes.{played, inserted_by, deleted_by, changes_over, changes_in}
-use Rattle.rls_changes.specs.Telling.{Told, told_within, told_in, all_released_changes, all_released_changes_in}
+use Rattle.rls_replica.specs.Watching.{Told}
+use Rattle.rls_changes.specs.Telling.{told_within, told_in, all_released_changes, all_released_changes_in}
 
 -- the changes of an operation that is accepted, played over the text before it, give the text after it
 abbrev pub ChangesPlayed : Type 0
@@ -55,7 +56,7 @@ ChangesAlike = (s : Seen) (t : State) (o : Op) → StandsFor s t → IsTrue (kee
 
 -- telling changes nothing else: each message leads to the same replica, and the same is counted, step by step
 abbrev pub TellsBeside : Type 0
-TellsBeside = (limit : Limit) (s : Seen) (m : Message) → IsAlike (λ (t : Told Seen) (u : Seen). t.state ≡ u) (told_within limit s m) (taken_within limit s m)
+TellsBeside = (limit : Limit) (s : Seen) (m : Message) → IsAlike (λ (t : Told Seen Change) (u : Seen). t.state ≡ u) (told_within limit s m) (taken_within limit s m)
 
 -- the offsets of what is inserted are in range
 abbrev pub AreInRange : List Op → Type 0
@@ -64,12 +65,12 @@ AreInRange os = (o : Op) → IsIn o os → IsInRange o.body
 -- the changes of a message, or of some of its steps, lead from the text before to the text after
 abbrev pub TakenPlayed : Type 0
 TakenPlayed = (limit : Limit) (s : Seen) (m : Message) → IsSane s → IsMessage (members s) m → AreInRange m.ops →
-    played (told_within limit s m).state.changes (text_over s) ≡ text_over (taken_within limit s m).state
+    played (told_within limit s m).state.told (text_over s) ≡ text_over (taken_within limit s m).state
 
 -- both are those of each history that the replica stands for
 abbrev pub TakenAlike : Type 0
 TakenAlike = (limit : Limit) (s : Seen) (t : State) (m : Message) → IsSane s → StandsFor s t → IsMessage (members s) m → AreInRange m.ops →
-    (told_within limit s m).state.changes ≡ (told_in limit t m).state.changes
+    (told_within limit s m).state.told ≡ (told_in limit t m).state.told
 
 -- and so are those of releases until none is ready
 abbrev pub ReleasedAlike : Type 0

@@ -15,10 +15,9 @@ ghost use Rattle.rls_changes.specs.Telling.{taken_changes};
 ghost use Rattle.rls_changes.specs.ChangesLaws.{Lead};
 
 use crate::change::Change;
-use crate::taking::take;
-use rls_codec::{DecodeError, decode_message};
-use rls_replica::{Replica, TakeError, Taken};
-use rls_sync::TakeBytesError;
+use crate::telling::Telling;
+use rls_replica::{Replica, Taken};
+use rls_sync::{TakeBytesError, take_bytes_watched};
 use std::alloc::Global;
 
 /// Takes the message that the bytes are, as `take_bytes` of `rls_sync` does, and puts what that changes in the text after the other
@@ -58,15 +57,8 @@ pub fn take_bytes(
     ensures stands { IfOk result (λ taken. (t : State) → StandsFor replica.old t → (m : Message) × (message_of bytes.now ≡ Ok m)
         × (taken ≡ model.taken (take_message t m)) × StandsFor replica.new (take_message t m).state) }
 {
-    match decode_message(alloc, bytes) {
-        Ok(message) => match take(replica, message, changes) {
-            Ok(taken) => Ok(taken),
-            Err(TakeError::OtherGroup { group, members }) => {
-                Err(TakeBytesError::OtherGroup { group, members })
-            }
-            Err(TakeError::OutOfMemory) => Err(TakeBytesError::OutOfMemory),
-        },
-        Err(DecodeError::Malformed { at }) => Err(TakeBytesError::Malformed { at }),
-        Err(DecodeError::OutOfMemory) => Err(TakeBytesError::OutOfMemory),
-    }
+    let mut telling = Telling::after(changes);
+    let taken = take_bytes_watched(alloc, replica, bytes, &mut telling);
+    *changes = telling.changes;
+    taken
 }

@@ -23,60 +23,20 @@ use rls_replica::Replica;
 use rls_runs::{Run, Runs, Text};
 use std::alloc::{AllocError, Global};
 
-/// What accepting an operation would change, if it may be accepted now; else anything.
+/// What accepting an operation changes.
 ///
 /// It costs about what accepting it costs: the translation of its identifiers, and a few ways down the tree for each stretch of
 /// characters that goes in between two neighbours, or of targets that are adjacent in the text or gone.
-pub(crate) fn changes_if(
+#[tactic(auto, unfolding(crate::specs::Changes::changes_over))]
+pub(crate) fn changes_of(
     alloc: Global,
     replica: &Replica,
     op: &Op,
 ) -> Result<Vec<Change>, AllocError>
-    ensures changes { IfOk result (λ changes. MayApply replica.now op.now → changes.items ≡ changes_over replica.now op.now) }
-{
-    if !may_apply(replica, op) {
-        return Ok(Vec::new(alloc));
-    }
-    let changes = changes_of(alloc, replica, op)?;
-    Ok(changes)
-}
-
-// Whether the shape of an operation is right, its number is new, its causes are there and its epoch is kept.
-fn may_apply(replica: &Replica, op: &Op) -> bool
-    ensures shape { IsTrue result → shape_fault (members replica.now) op.now ≡ None }
-    ensures kept { IsTrue result → IsTrue (keeps replica.now op.now.epoch) }
-    ensures not { IsFalse result → MayApply replica.now op.now → ⊥ }
-{
-    rely!(replica.sane());
-    match op.check_shape(replica.members()) {
-        Err(_) => false,
-        Ok(()) => is_due(replica, op),
-    }
-}
-
-// Whether its number is new, its causes are there and its epoch is kept.
-fn is_due(replica: &Replica, op: &Op) -> bool
-    requires shape { shape_fault (members replica.now) op.now ≡ None }
-    ensures kept { IsTrue result → IsTrue (keeps replica.now op.now.epoch) }
-    ensures not { IsFalse result → MayApply replica.now op.now → ⊥ }
-{
-    rely!(replica.sane());
-    if op.seq <= replica.vector().get(op.author) {
-        return false;
-    }
-    if !op.context.at_most(replica.vector()) {
-        return false;
-    }
-    replica.keeps(op.epoch)
-}
-
-// If its shape is right and its epoch is kept.
-#[tactic(auto, unfolding(crate::specs::Changes::changes_over))]
-fn changes_of(alloc: Global, replica: &Replica, op: &Op) -> Result<Vec<Change>, AllocError>
-    requires shape { shape_fault (members replica.now) op.now ≡ None }
-    requires kept { IsTrue (keeps replica.now op.now.epoch) }
+    requires may { MayApply replica.now op.now }
     ensures changes { IfOk result (λ changes. changes.items ≡ changes_over replica.now op.now) }
 {
+    rely!(replica.sane());
     match &op.body {
         Body::Insert { first, text } => {
             let changes = inserting(alloc, replica, op.epoch, first, text)?;

@@ -8,6 +8,7 @@ mod finding;
 pub mod laws;
 mod receiving;
 mod taking;
+mod telling;
 
 pub use bytes::take_bytes;
 pub use change::Change;

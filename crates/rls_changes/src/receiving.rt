@@ -1,28 +1,24 @@
 //! Operations that arrive or wait, with what they change.
 
-ghost use Rattle.std.specs.Prelude.{◌≡◌, ◌++◌, [], false, Some, None, IfOk, OnOk, OnErr, IsTrue, IsFalse};
-ghost use Rattle.rls_ops.specs.declared.op.Op.{Op as OpSeen};
-ghost use Rattle.rls_model.specs.Answers.{answer_of, reason_in, Applies, Reason};
-ghost use Rattle.rls_seen.specs.Over.{answer_over, first_ready, received, release_over, released};
-ghost use Rattle.rls_seen.specs.Sane.{MayApply};
+ghost use Rattle.std.specs.Prelude.{◌≡◌, ◌++◌, false, IfOk, OnOk, OnErr};
+ghost use Rattle.rls_model.specs.Answers.{answer_of};
+ghost use Rattle.rls_seen.specs.Over.{answer_over, received, release_over, released};
 ghost use Rattle.rls_seen.specs.Seen.{text_over};
 ghost use Rattle.rls_replica.specs.Names.{KeepsNames};
 ghost use Rattle.rls_replica.specs.Releases.{release_in};
-ghost use Rattle.rls_changes.specs.Changes.{changes_over};
 ghost use Rattle.rls_changes.specs.Telling.{received_changes, released_changes};
 ghost use Rattle.rls_changes.specs.ChangesLaws.{Lead};
 
-use crate::change::{Change, push_all};
-use crate::finding::changes_if;
-use rls_ident::rely;
+use crate::change::Change;
+use crate::telling::Telling;
 use rls_ops::Op;
 use rls_replica::{Receipt, Release, Replica};
-use std::alloc::{AllocError, Global};
+use std::alloc::AllocError;
 
 /// Receives an operation as `Replica::receive` does, and puts what that changes in the text after the other changes: nothing if the
 /// operation isn't accepted. After an error both are as before, and the operation is given up.
 ///
-/// It costs what `Replica::receive` does, and about as much again to find the changes if the operation is new and its causes are there.
+/// It costs what `Replica::receive` does, and about as much again to find the changes if the operation is accepted.
 pub fn receive(
     replica: &mut Replica,
     op: Op,
@@ -38,38 +34,16 @@ pub fn receive(
     // Played one after another, what is added leads from the text before to the text now.
     ensures lead { Lead changes.old.items changes.new.items (text_over replica.old) (text_over replica.new) }
 {
-    rely!(replica.sane());
-    rely!(op.fits());
-    let before = changes.len();
-    let fresh = changes_if(*changes.allocator(), replica, &op)?;
-    push_all(changes, fresh)?;
-    match replica.receive(op) {
-        Err(error) => {
-            changes.truncate(before);
-            Err(error)
-        }
-        Ok(receipt) => {
-            if is_applied(&receipt) {
-                return Ok(receipt);
-            }
-            changes.truncate(before);
-            Ok(receipt)
-        }
-    }
-}
-
-// Whether the operation was accepted.
-fn is_applied(receipt: &Receipt) -> bool
-    ensures yes { IsTrue result → answer_of receipt.now ≡ Applies }
-    ensures no { IsFalse result → answer_of receipt.now ≡ Applies → ⊥ }
-{
-    matches!(receipt, Receipt::Applied)
+    let mut telling = Telling::after(changes);
+    let receipt = replica.receive_watched(op, &mut telling);
+    *changes = telling.changes;
+    receipt
 }
 
 /// Releases the first ready operation as `Replica::release` does, and puts what that changes in the text after the other changes:
 /// nothing if none is ready or it is refused. After an error both are as before.
 ///
-/// It costs what `Replica::release` does, and about as much again to find the changes.
+/// It costs what `Replica::release` does, and about as much again to find the changes if the operation is accepted.
 pub fn release(
     replica: &mut Replica,
     changes: &mut Vec<Change>,
@@ -84,47 +58,8 @@ pub fn release(
     // Played one after another, what is added leads from the text before to the text now.
     ensures lead { Lead changes.old.items changes.new.items (text_over replica.old) (text_over replica.new) }
 {
-    rely!(replica.sane());
-    let before = changes.len();
-    let fresh = ready(*changes.allocator(), replica)?;
-    push_all(changes, fresh)?;
-    match replica.release() {
-        Err(error) => {
-            changes.truncate(before);
-            Err(error)
-        }
-        Ok(None) => Ok(None),
-        Ok(Some(release)) => {
-            if fits(&release) {
-                return Ok(Some(release));
-            }
-            changes.truncate(before);
-            Ok(Some(release))
-        }
-    }
-}
-
-// Whether what was released was accepted.
-fn fits(release: &Release) -> bool
-    ensures yes { IsTrue result → reason_in release.now.refusal ≡ None }
-    ensures no { IsFalse result → (r : Reason) × (reason_in release.now.refusal ≡ Some r) }
-{
-    match &release.refusal {
-        None => true,
-        Some(_refusal) => false,
-    }
-}
-
-// What the first ready operation would change, if it may be accepted; nothing if none is ready.
-fn ready(alloc: Global, replica: &Replica) -> Result<Vec<Change>, AllocError>
-    ensures some { IfOk result (λ fresh. (w : OpSeen) → first_ready replica.now ≡ Some w → MayApply replica.now w → fresh.items ≡ changes_over replica.now w) }
-    ensures none { IfOk result (λ fresh. first_ready replica.now ≡ None → fresh.items ≡ []) }
-{
-    match replica.held().first_ready(replica.vector()) {
-        None => Ok(Vec::new(alloc)),
-        Some(op) => {
-            let fresh = changes_if(alloc, replica, op)?;
-            Ok(fresh)
-        }
-    }
+    let mut telling = Telling::after(changes);
+    let release = replica.release_watched(&mut telling);
+    *changes = telling.changes;
+    release
 }

@@ -1,27 +1,25 @@
 //! Messages that are taken, and releases until none is ready, with what they change.
 //! Why: docs/DECISIONS.md, 120.
 
-ghost use Rattle.std.specs.Prelude.{◌≡◌, ◌+◌, ◌<◌, ◌≤◌, ◌↔◌, ◌∷◌, ◌++◌, [], List, ℕ, length, Some, None, is_some, IfOk, OnOk, OnErr, IsErrOf};
-ghost use Rattle.rls_ops.specs.declared.op.Op.{Op};
-ghost use Rattle.rls_model.specs.Machine.{no_counts, HasRoom, receive_on, release_on, release_all_on, take_on};
+ghost use Rattle.std.specs.Prelude.{◌≡◌, ◌<◌, ◌↔◌, ◌++◌, ℕ, length, IfOk, OnOk, OnErr, IsErrOf};
+ghost use Rattle.rls_model.specs.Machine.{release_all_on};
 ghost use Rattle.rls_model.specs.Receiving.{State};
 ghost use Rattle.rls_model.specs.Taking.{take_message, take_within};
 ghost use Rattle.rls_model.specs.Taking as model;
-ghost use Rattle.rls_seen.specs.Seen.{Seen, text_over};
-ghost use Rattle.rls_seen.specs.Over.{release_over, released, released_all, IsPartReleased};
-ghost use Rattle.rls_seen.specs.Sane.{IsSane};
+ghost use Rattle.rls_seen.specs.Seen.{text_over};
+ghost use Rattle.rls_seen.specs.Over.{released_all, IsPartReleased};
 ghost use Rattle.rls_seen.specs.Messages.{with_releases, taken_over, taken_of, IsPartTaken};
 ghost use Rattle.rls_seen.specs.Stands.{StandsFor};
-ghost use Rattle.rls_replica.specs.Steps.{course, CountsReleased, IsPartOfOps, AreFew, IsOnWay};
+ghost use Rattle.rls_replica.specs.Steps.{course, CountsReleased, AreFew};
 ghost use Rattle.rls_replica.specs.Names.{KeepsNames};
 ghost use Rattle.rls_replica.specs.Faults.{IsForeign};
-ghost use Rattle.rls_changes.specs.Telling.{all_released_changes, taken_changes, tells_parts, told_course};
+ghost use Rattle.rls_replica.specs.Watching.{told_course};
+ghost use Rattle.rls_changes.specs.Telling.{all_released_changes, taken_changes, tells_parts};
 ghost use Rattle.rls_changes.specs.ChangesLaws.{Lead};
 
 use crate::change::Change;
-use crate::receiving::{receive, release};
-use rls_ident::rely;
-use rls_ops::{Message, Op, Ops};
+use crate::telling::Telling;
+use rls_ops::Message;
 use rls_replica::{Replica, TakeError, Taken};
 use std::alloc::AllocError;
 
@@ -45,73 +43,10 @@ pub fn release_all(
     // Played one after another, what is added leads from the text before to the text now, also after an error.
     ensures lead { Lead changes.old.items changes.new.items (text_over replica.old) (text_over replica.new) }
 {
-    'releases: while release_one(replica, taken, changes)? {}
-    Ok(())
-}
-
-// Releases the first ready operation, if there is one, and counts it.
-fn release_one(
-    replica: &mut Replica,
-    taken: &mut Taken,
-    changes: &mut Vec<Change>,
-) -> Result<bool, AllocError>
-    requires counted { CountsReleased replica.old taken.old }
-    ensures counted { CountsReleased replica.new taken.new }
-    ensures some { IfOk result (λ b. b ≡ is_some (release_over replica.old)) }
-    ensures told { OnOk result (told_course replica.new taken.new changes.new.items ≡ release_on tells_parts (told_course replica.old taken.old changes.old.items)) }
-    ensures after { OnOk result (replica.new ≡ released replica.old) }
-    ensures err { OnErr result (IsPartReleased replica.old replica.new) }
-    ensures arrived { (n : ℕ) → AreFew n taken.old → AreFew n taken.new }
-    ensures lead { Lead changes.old.items changes.new.items (text_over replica.old) (text_over replica.new) }
-    ensures sane { IsSane replica.old }
-{
-    rely!(replica.sane());
-    match release(replica, changes)? {
-        None => Ok(false),
-        Some(release) => {
-            taken.count_release(release)?;
-            Ok(true)
-        }
-    }
-}
-
-// Receives one operation and counts it, and releases what is ready.
-fn take_one(
-    replica: &mut Replica,
-    op: Op,
-    taken: &mut Taken,
-    changes: &mut Vec<Change>,
-) -> Result<(), AllocError>
-    requires counted { CountsReleased replica.old taken.old }
-    requires room { HasRoom taken.old }
-    ensures counted { CountsReleased replica.new taken.new }
-    ensures arrived { (n : ℕ) → AreFew n taken.old → AreFew (n + 1) taken.new }
-    ensures told { OnOk result (told_course replica.new taken.new changes.new.items ≡ release_all_on tells_parts (receive_on tells_parts (told_course replica.old taken.old changes.old.items) op)) }
-    ensures ok { OnOk result ((s : Seen) (os rest : List Op) → IsOnWay s os (course replica.old taken.old) (op ∷ rest) → IsOnWay s os (course replica.new taken.new) rest) }
-    ensures err { OnErr result ((s : Seen) (os rest : List Op) → IsOnWay s os (course replica.old taken.old) (op ∷ rest) → IsPartOfOps s os replica.new) }
-    ensures lead { Lead changes.old.items changes.new.items (text_over replica.old) (text_over replica.new) }
-{
-    rely!(replica.sane());
-    let (author, seq) = (op.author, op.seq);
-    let receipt = receive(replica, op, changes)?;
-    rely!(replica.sane());
-    taken.count_receipt(author, seq, receipt)?;
-    release_all(replica, taken, changes)?;
-    Ok(())
-}
-
-// Receives each operation in turn, and releases after it what is ready.
-fn take_ops(replica: &mut Replica, ops: Ops, changes: &mut Vec<Change>) -> Result<Taken, AllocError>
-    ensures told { IfOk result (λ taken. told_course replica.new taken changes.new.items ≡ take_on tells_parts (told_course replica.old no_counts changes.old.items) ops) }
-    ensures err { OnErr result (IsPartOfOps replica.old ops replica.new) }
-    ensures lead { Lead changes.old.items changes.new.items (text_over replica.old) (text_over replica.new) }
-{
-    let mut taken = Taken::new(*changes.allocator());
-    let mut rest = ops.into_remaining();
-    'taking: while let Some(op) = rest.pop_first() {
-        take_one(replica, op, &mut taken, changes)?;
-    }
-    Ok(taken)
+    let mut telling = Telling::after(changes);
+    let released = replica.release_all_watched(taken, &mut telling);
+    *changes = telling.changes;
+    released
 }
 
 /// Takes a message as `Replica::take` does, and puts what that changes in the text after the other changes.
@@ -144,21 +79,8 @@ pub fn take(
     ensures stands { IfOk result (λ taken. (t : State) → StandsFor replica.old t → (taken ≡ model.taken (take_message t message)) × StandsFor replica.new (take_message t message).state) }
     ensures part { IsErrOf result TakeError.OutOfMemory → (t : State) → StandsFor replica.old t → (n : ℕ) × StandsFor replica.new (take_within (Some n) t message).state }
 {
-    if message.group != replica.group() || message.members != replica.members() {
-        return Err(TakeError::OtherGroup {
-            group: message.group,
-            members: message.members,
-        });
-    }
-    rely!(let _len = message.vector.len());
-    rely!(message.ops.fits());
-    let Message {
-        from,
-        vector,
-        ops,
-        ..
-    } = message;
-    let taken = take_ops(replica, ops, changes)?;
-    replica.acknowledge(from, &vector);
-    Ok(taken)
+    let mut telling = Telling::after(changes);
+    let taken = replica.take_watched(message, &mut telling);
+    *changes = telling.changes;
+    taken
 }
