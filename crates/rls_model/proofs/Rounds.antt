@@ -194,7 +194,7 @@ module _ (w : World) (ks : List Happening) (from to : ℕ) (g : IsGood w) (quiet
 
 -- ---- what is there with all of its causes is known
 
-all_known : (Q : History) (s : State) → IsLegal Q → IsLegal s.history → members_of Q ≡ members_of s.history → IsAtRest s → ((o : Op) → IsIn o (ops Q) → IsThere s o) → (o : Op) → IsIn o (ops Q) → IsIn o (ops s.history)
+pub all_known : (Q : History) (s : State) → IsLegal Q → IsLegal s.history → members_of Q ≡ members_of s.history → IsAtRest s → ((o : Op) → IsIn o (ops Q) → IsThere s o) → (o : Op) → IsIn o (ops Q) → IsIn o (ops s.history)
 all_known (history.Fresh group me members) s l m e r f o p = absurd p
 all_known (Then G (Acknowledged c v)) s l m e r f o p = all_known G s l.0 m e r f o p
 all_known (Then G (Accepted u)) s l m e r f o p =
@@ -207,7 +207,7 @@ all_known (Then G (Accepted u)) s l m e r f o p =
         let causes = at_most_trans u.context (count G) (count s.history) l.2.causes (part_count G s.history l.0 m e before) in
         absurd (true_false (at_most u.context (count s.history)) causes (not_found (λ x. at_most x.context (count s.history)) u s.waiting r q))
 
-none_in : (W : List Op) → ((o : Op) → IsIn o W → ⊥) → W ≡ []
+pub none_in : (W : List Op) → ((o : Op) → IsIn o W → ⊥) → W ≡ []
 none_in [] f = refl
 none_in (o ∷ os) f = absurd (f o (inl refl))
 

@@ -3,13 +3,12 @@ use Rattle.std.proofs.Common.{◌≡◌, ℕ, ◌<◌, true, false, List, [], �
 use Rattle.std.specs.Prelude.{not, ◌==◌, ◌↔◌, filter, if◌then◌else◌, slice_index}
 use Rattle.rls_ident.specs.Lists.{IsIn}
 use Rattle.rls_ident.specs.Vectors.{at_most}
-use Rattle.rls_ident.proofs.Members.{bool_cases, eq_is, filter_in, in_left, in_right, le_is, not_found, snoc_split, true_false}
+use Rattle.rls_ident.proofs.Members.{bool_cases, eq_is, filter_in, le_is}
 use Rattle.rls_ident.proofs.Vectors.{at_most_antisym, at_most_trans, index_le}
 use Rattle.rls_ops.specs.declared.op.Op.{Op}
 use Rattle.rls_model.specs.History.{Accepted, Acknowledged, History, Then, ops, count, me_of, members_of, has_left, acknowledged, row}
 use Rattle.rls_model.specs.History as history
 use Rattle.rls_model.specs.Stability.{unstable, is_covered, stable}
-use Rattle.rls_model.specs.Legal.{IsLegal}
 use Rattle.rls_model.specs.Receiving.{State}
 use Rattle.rls_model.specs.Taking.{missing_for}
 use Rattle.rls_model.specs.Worlds.{World}
@@ -25,6 +24,7 @@ use Rattle.rls_model.proofs.WorldsArrivals.{one_op}
 use Rattle.rls_model.proofs.WorldsArrived.{IsThere}
 use Rattle.rls_model.proofs.WorldsGathered.{grown_history, part_count}
 use Rattle.rls_model.proofs.NothingReady.{IsAtRest}
+use Rattle.rls_model.proofs.Rounds.{all_known, none_in}
 use Rattle.rls_passages.proofs.Lasting.{past_home, past_legal}
 
 -- what was acknowledged stays so
@@ -33,24 +33,6 @@ front_acks P (history.Fresh group me members) h a v p = subst (λ Q. IsAck Q a v
 front_acks P (Then G e) (inl h) a v p = subst (λ Q. IsAck Q a v) h p
 front_acks P (Then G (Accepted o)) (inr h) a v p = front_acks P G h a v p
 front_acks P (Then G (Acknowledged b w)) (inr h) a v p = inr (front_acks P G h a v p)
-
--- who has all operations of a history, or holds them until their causes come, has them
-all_known : (Q : History) (s : State) → IsLegal Q → IsLegal s.history → members_of Q ≡ members_of s.history → IsAtRest s → ((o : Op) → IsIn o (ops Q) → IsThere s o) → (o : Op) → IsIn o (ops Q) → IsIn o (ops s.history)
-all_known (history.Fresh group me members) s l m e r f o p = absurd p
-all_known (Then G (Acknowledged c v)) s l m e r f o p = all_known G s l.0 m e r f o p
-all_known (Then G (Accepted u)) s l m e r f o p =
-    let before = all_known G s l.0 m e r (λ x q. f x (in_left x (ops G) (u ∷ []) q)) in
-    ⊎_elim (λ q. before o q) (λ q. subst (λ (y : Op). IsIn y (ops s.history)) q (last before (f u (in_right u (ops G) (u ∷ []) (inl refl))))) (snoc_split o u (ops G) p)
-  where
-    last : ((x : Op) → IsIn x (ops G) → IsIn x (ops s.history)) → IsThere s u → IsIn u (ops s.history)
-    last before (inl q) = q
-    last before (inr q) =
-        let causes = at_most_trans u.context (count G) (count s.history) l.2.causes (part_count G s.history l.0 m e before) in
-        absurd (true_false (at_most u.context (count s.history)) causes (not_found (λ x. at_most x.context (count s.history)) u s.waiting r q))
-
-none_in : (W : List Op) → ((o : Op) → IsIn o W → ⊥) → W ≡ []
-none_in [] f = refl
-none_in (o ∷ os) f = absurd (f o (inl refl))
 
 -- it has just the operations of all members, and nothing waits there
 abbrev pub HasAll : World → State → Type 0
