@@ -1,8 +1,7 @@
 -- What is recorded over a history stays so that each name is of one character: after an edit, a group that is taken back, and a sweep.
 use Rattle.std.proofs.Common.{◌≡◌, ◌∙◌, ◌+◌, ◌-◌, ◌/◌, ℕ, zero, suc, Bool, true, false, List, [], ◌∷◌, ◌++◌, map, take, drop, length, Option, Some, None, inl, inr, refl, sym, ap, subst}
-use Rattle.std.specs.Prelude.{IsTrue, filter, nat_le, reverse, zip, if◌then◌else◌}
-use Rattle.std.proofs.lemmas.List.{append-nil, reverse-append, reverse-reverse}
-use Rattle.std.proofs.lemmas.List.Elements.{filter-append}
+use Rattle.std.specs.Prelude.{IsTrue, nat_le, reverse, zip, if◌then◌else◌}
+use Rattle.std.proofs.lemmas.List.{reverse-append, reverse-reverse}
 use Rattle.rls_ident.specs.declared.tuple.Tuple.{Tuple}
 use Rattle.rls_ident.specs.declared.epoch_name.EpochName.{EpochName}
 use Rattle.rls_ident.specs.declared.epoch_name.EpochName.TheVariants.{Origin}
@@ -38,6 +37,7 @@ use Rattle.rls_seen.specs.Seen.{Seen}
 use Rattle.rls_seen.specs.Stands.{StandsFor}
 use Rattle.rls_replica.specs.Names.{keeps}
 use Rattle.rls_steps.proofs.Agreeing.{held_to}
+use Rattle.rls_steps.proofs.Swept.{filter_back}
 use Rattle.rls_steps.specs.Index.{AreApart}
 use Rattle.rls_steps.specs.Grounds.{Held, begun_on, epoch_or, Left, back_edits, back_on, cut_edits, cut_on, cuts_on, held_on, kept_on, labelled_on, labels_on, names_on, piece_on, place_on, put_on, ranges_on, ready_on, recorded_on, settled_on, steps_edits, steps_on, taken_edits, taken_on, within}
 use Rattle.rls_steps.specs.Groups.{group_size}
@@ -246,17 +246,6 @@ back_recorded t r l e k =
     let n = steps_named (group_size r.past) h (reverse r.past) r.future e (held_named t r l k) in
     let q = finished h z n in
     ((n.at).legal, record { kept = q.0; named = q.1 })
-
-filter_back : {A : Type 0} (t : A → Bool) (xs : List A) → reverse (filter t xs) ≡ filter t (reverse xs)
-filter_back t [] = refl
-filter_back {A} t (x ∷ xs) = go (t x) refl (filter_back t xs) ∙ sym (ap (filter t) (reverse-append (x ∷ []) xs) ∙ filter-append t (reverse xs) (x ∷ []))
-  where
-    one : (b : Bool) → t x ≡ b → filter t (x ∷ []) ≡ (if b then x ∷ [] else [])
-    one b e = ap (λ c. if c then x ∷ [] else []) e
-
-    go : (b : Bool) → t x ≡ b → reverse (filter t xs) ≡ filter t (reverse xs) → reverse (if b then x ∷ filter t xs else filter t xs) ≡ filter t (reverse xs) ++ filter t (x ∷ [])
-    go true e h = reverse-append (x ∷ []) (filter t xs) ∙ (ap (λ ys. ys ++ x ∷ []) h ∙ ap (λ ys. filter t (reverse xs) ++ ys) (sym (one true e)))
-    go false e h = h ∙ (sym (append-nil (filter t (reverse xs))) ∙ ap (λ ys. filter t (reverse xs) ++ ys) (sym (one false e)))
 
 pub kept_recorded : (t : State) (steps chars : ℕ) (r : Recorded) → IsLegal (H t) → NamesCharacters t r → NamesCharacters t (kept_on within t steps chars r)
 kept_recorded t steps chars r l k = go (nat_le (length r.names / 2) r.after_sweep)

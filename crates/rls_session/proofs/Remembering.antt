@@ -1,5 +1,5 @@
 -- What a session has recorded leads back and forth through the texts of an editor that keeps a copy of the text before each group.
-use Rattle.std.proofs.Common.{◌≡◌, ◌∙◌, ◌-◌, ◌≤◌, ◌/◌, ◌+◌, ℕ, zero, suc, Bool, true, false, List, [], ◌∷◌, ◌++◌, map, length, take, drop, Some, None, inl, inr, refl, sym, ap, subst, arith, append_assoc}
+use Rattle.std.proofs.Common.{◌≡◌, ◌∙◌, ◌-◌, ◌≤◌, ◌/◌, ◌+◌, ℕ, zero, suc, Bool, true, false, List, [], ◌∷◌, ◌++◌, map, length, take, drop, Some, None, refl, sym, ap, subst, arith, append_assoc}
 use Rattle.std.specs.Prelude.{IsTrue, nat_le, replicate, reverse, if◌then◌else◌}
 use Rattle.std.proofs.lemmas.List.{drop_all, length-append, length-drop, length-map, length-reverse, reverse-append, reverse-reverse, take-append-drop, take_at}
 use Rattle.rls_ident.specs.declared.tuple.Tuple.{Tuple}
@@ -7,12 +7,10 @@ use Rattle.rls_ident.specs.declared.epoch_name.EpochName.{EpochName}
 use Rattle.rls_ident.specs.EpochNames.{name_eq}
 use Rattle.rls_ident.specs.Identifiers.{IsIdent}
 use Rattle.rls_ident.specs.Lists.{IsIn}
-use Rattle.rls_ident.proofs.Lists.{Lt, lt_irrefl}
-use Rattle.rls_ident.proofs.Tuples.{tuples}
 use Rattle.rls_ident.specs.declared.epoch_name.EpochName.TheVariants.{Origin}
 use Rattle.rls_rename.specs.Tree.{Epochs, greatest, translate}
 use Rattle.rls_runs.specs.Entries.{Entries, chars_in}
-use Rattle.rls_runs.proofs.Sorted.{AreAbove, Rises, rises_of_increasing}
+use Rattle.rls_runs.proofs.Sorted.{rises_of_increasing}
 use Rattle.rls_model.specs.declared.edit.Edit.TheVariants as edits
 use Rattle.rls_model.specs.WellFormed.{IsEdit}
 use Rattle.rls_replica.specs.Editing.{edited_text}
@@ -32,12 +30,12 @@ use Rattle.rls_steps.specs.GroundLaws.{IsWhole}
 use Rattle.rls_steps.specs.Grounds.{Held, Turned, again_on, back_on, begun_on, epoch_or, exchanged, over, piece_on, recorded_on}
 use Rattle.rls_steps.specs.Groups.{front_size, goes_on, group_size, in_front}
 use Rattle.rls_steps.specs.Labelled.{IsRenamed, Labelled, Names, cut_piece, insert_over, marked_by, ready_over}
-use Rattle.rls_steps.specs.Marks.{Marked, Unknown, marks, numbers_from}
+use Rattle.rls_steps.specs.Marks.{Marked, marks, numbers_from}
 use Rattle.rls_steps.specs.Parts.{deleted, parts, without}
 use Rattle.rls_steps.specs.Recorded.{Recorded, held_by, names_over, pieces_of, settled, steps_of, steps_over, unused}
 use Rattle.rls_steps.specs.Sweeping.{kept_within, swept, with_newest}
 use Rattle.rls_steps.proofs.Applied.{applied_renames}
-use Rattle.rls_steps.proofs.Courses.{as_copied, move_shows}
+use Rattle.rls_steps.proofs.Courses.{as_copied, move_shows, rises_distinct}
 use Rattle.rls_steps.proofs.Following.{renaming_shows}
 use Rattle.rls_steps.proofs.Forgetting.{forgetting_shows}
 use Rattle.rls_steps.proofs.Grounded.{on, on_piece, on_ready}
@@ -455,18 +453,6 @@ settled_remembers s n r g sane text top m =
     same_remembers s n (settled s r) g sane text (names_there n (greatest_over s) ns (sym top) ∙ sym (names_there s (greatest_over s) ns refl)) here
 
 -- at first
-rises_distinct : (es : Entries) → Rises es → AreDistinct (marks (marked_by [] es))
-rises_distinct [] r = tt
-rises_distinct (e ∷ es) r = (λ p. apart es r.0 p, rises_distinct es r.1)
-  where
-    unknown : (x y : List Tuple) → Unknown x ≡ Unknown y → x ≡ y
-    unknown x y q = cc
-
-    apart : (ds : Entries) → AreAbove e ds → IsIn (Unknown e.0) (marks (marked_by [] ds)) → ⊥
-    apart [] a p = absurd p
-    apart (d ∷ ds) a (inl q) = lt_irrefl (subst (λ z. Lt tuples e.0 z) (unknown d.0 e.0 q) a.0)
-    apart (d ∷ ds) a (inr p) = apart ds a.1 p
-
 pub first_remembers : (s : Seen) → IsSane s → Remembers s unused (record { now = text_over s; before = []; after = [] })
 first_remembers s sane = record {
   copies = texts (text_over s) [] [];

@@ -1,13 +1,12 @@
 -- Names that were recorded in some epoch, before and after a rename.
 use Rattle.std.proofs.Common.{◌≡◌, ◌∙◌, ℕ, None, Bool, true, false, List, [], ◌∷◌, map, inl, inr, refl, sym, ap, subst}
 use Rattle.std.specs.Prelude.{IsTrue, reverse, if◌then◌else◌}
-use Rattle.std.proofs.lemmas.List.{reverse-append}
 use Rattle.rls_ident.specs.declared.tuple.Tuple.{Tuple}
 use Rattle.rls_ident.specs.declared.epoch_name.EpochName.{EpochName}
 use Rattle.rls_ident.specs.EpochNames.{name_eq}
 use Rattle.rls_ident.specs.Identifiers.{IsIdent}
 use Rattle.rls_ident.specs.Lists.{IsIn}
-use Rattle.rls_ident.proofs.Members.{in_left, in_map, in_right, map_in}
+use Rattle.rls_ident.proofs.Members.{in_map, map_in}
 use Rattle.rls_ident.proofs.Named.{name_eq_is}
 use Rattle.rls_rename.specs.Tree.{AreBelow, AreNodes, Epochs, Node, translate}
 use Rattle.rls_rename.proofs.Growth.{kept_other, translate_other, translate_same}
@@ -24,6 +23,7 @@ use Rattle.rls_seen.proofs.Written.{rename_tree}
 use Rattle.rls_replica.specs.Names.{keeps}
 use Rattle.rls_steps.specs.Labelled.{Names}
 use Rattle.rls_steps.specs.Recorded.{names_over}
+use Rattle.rls_steps.proofs.Stretches.{in_reverse}
 use Rattle.rls_session.specs.Remembering.{AreIdents}
 
 abbrev Placed : Type 0
@@ -95,13 +95,8 @@ all_in : (ns : Names) → ((x : List Tuple) → IsIn x (map (λ n. n.0) ns) → 
 all_in [] h = tt
 all_in (n ∷ ns) h = (h n.0 (inl refl), all_in ns (λ x p. h x (inr p)))
 
-in_back : {A : Type 0} (x : A) (xs : List A) → IsIn x xs → IsIn x (reverse xs)
-in_back x [] p = absurd p
-in_back x (y ∷ xs) (inl e) = subst (λ zs. IsIn x zs) (sym (reverse-append (y ∷ []) xs)) (in_right x (reverse xs) (y ∷ []) (inl e))
-in_back x (y ∷ xs) (inr p) = subst (λ zs. IsIn x zs) (sym (reverse-append (y ∷ []) xs)) (in_left x (reverse xs) (y ∷ []) (in_back x xs p))
-
 -- where the newest come first
 pub idents_back : (ns : Names) → ((x : List Tuple) → IsIn x (map (λ n. n.0) (reverse ns)) → IsIdent x) → AreIdents ns
 idents_back ns h = all_in ns (λ x p.
     let q = in_map (λ (n : List Tuple × ℕ). n.0) x ns p in
-    h x (subst (λ y. IsIn y (map (λ (n : List Tuple × ℕ). n.0) (reverse ns))) q.2 (map_in (λ (n : List Tuple × ℕ). n.0) q.0 (reverse ns) (in_back q.0 ns q.1))))
+    h x (subst (λ y. IsIn y (map (λ (n : List Tuple × ℕ). n.0) (reverse ns))) q.2 (map_in (λ (n : List Tuple × ℕ). n.0) q.0 (reverse ns) (in_reverse q.0 ns q.1))))

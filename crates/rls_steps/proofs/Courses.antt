@@ -106,7 +106,7 @@ as_copied st c (m ∷ ms) x f = as_copied (moved st m) (copied c m) ms (move_sho
 
 -- ---- at first
 
-rises_distinct : (es : Entries) → Rises es → AreDistinct (marks (marked_by [] es))
+pub rises_distinct : (es : Entries) → Rises es → AreDistinct (marks (marked_by [] es))
 rises_distinct [] r = tt
 rises_distinct (e ∷ es) r = (λ p. apart es r.0 p, rises_distinct es r.1)
   where

@@ -11,7 +11,7 @@ use Rattle.rls_ident.specs.declared.tuple.Tuple.{Tuple}
 use Rattle.rls_ident.specs.Identifiers.{ident_eq, IsIdent}
 use Rattle.rls_ident.specs.Lists.{IsIn}
 use Rattle.rls_ident.proofs.Ends.{eq_same}
-use Rattle.rls_ident.proofs.Members.{bool_cases, true_false, eq_is, eq_test, eq_refl, some_is, or_right, not_true, same_bool, lt_is, not_lt_is, in_left, in_right, in_split, in_map, map_in, in_filter, in_any, any_in}
+use Rattle.rls_ident.proofs.Members.{bool_cases, true_false, eq_is, eq_test, eq_refl, some_is, or_right, not_true, same_bool, lt_is, not_lt_is, in_left, in_right, in_map, map_in, in_filter, in_any, any_in}
 use Rattle.rls_runs.specs.Entries.{Entries, idents_in}
 use Rattle.rls_runs.specs.Runs.{place_of, is_increasing}
 use Rattle.rls_seen.specs.Seen.{idents_over}
@@ -25,6 +25,7 @@ use Rattle.rls_steps.specs.Sweeping.{piece_labels, step_labels, is_needed, is_ne
 use Rattle.rls_steps.proofs.Exchanging.{AllOf, PiecesOf, ExchangesOf, exchanged_of, distinct_marks}
 use Rattle.rls_steps.proofs.Found.{place_at, contained, contains_in}
 use Rattle.rls_steps.proofs.Recording.{names_there}
+use Rattle.rls_steps.proofs.Stretches.{reverse_in}
 use Rattle.rls_steps.proofs.Tabled.{marks_are}
 use Rattle.rls_steps.proofs.Tabling.{take_snoc}
 
@@ -220,17 +221,8 @@ label_in x [] l i j = absurd i
 label_in x (y ∷ ys) l (inl e) j = in_left l (piece_labels y.piece) (step_labels ys) (subst (λ (z : Step). IsIn l (piece_labels z.piece)) (sym e) j)
 label_in x (y ∷ ys) l (inr i) j = in_right l (piece_labels y.piece) (step_labels ys) (label_in x ys l i j)
 
-in_back : (x : Step) (xs : List Step) → IsIn x (reverse xs) → IsIn x xs
-in_back x [] i = absurd i
-in_back x (y ∷ ys) i = go (in_back x ys) (in_split x (reverse ys) (y ∷ []) (subst (λ (zs : List Step). IsIn x zs) (reverse-append (y ∷ []) ys) i))
-  where
-    go : (IsIn x (reverse ys) → IsIn x ys) → IsIn x (reverse ys) ⊎ IsIn x (y ∷ []) → IsIn x (y ∷ ys)
-    go f (inl p) = inr (f p)
-    go f (inr (inl e)) = inl e
-    go f (inr (inr v)) = absurd v
-
 needed_pieces : (labels : List ℕ) (xs : List Step) → ((l : ℕ) → IsIn l (step_labels xs) → IsIn l labels) → PiecesOf (λ l. is_needed labels l ≡ true) (pieces_of xs)
-needed_pieces labels xs h = steps_of (λ l. is_needed labels l ≡ true) (reverse xs) (λ x i l j. any_in (λ k. k == l) l labels (h l (label_in x xs l (in_back x xs i) j)) (eq_refl l))
+needed_pieces labels xs h = steps_of (λ l. is_needed labels l ≡ true) (reverse xs) (λ x i l j. any_in (λ k. k == l) l labels (h l (label_in x xs l (reverse_in x xs i) j)) (eq_refl l))
 
 -- ---- the names that are kept
 
@@ -239,7 +231,7 @@ filter_one t x = bool_cases (t x)
     (λ b. ap (λ (c : Bool). reverse (if c then x ∷ [] else [])) b ∙ sym (ap (λ (c : Bool). if c then x ∷ [] else []) b))
     (λ b. ap (λ (c : Bool). reverse (if c then x ∷ [] else [])) b ∙ sym (ap (λ (c : Bool). if c then x ∷ [] else []) b))
 
-filter_back : {A : Type 0} (t : A → Bool) (xs : List A) → reverse (filter t xs) ≡ filter t (reverse xs)
+pub filter_back : {A : Type 0} (t : A → Bool) (xs : List A) → reverse (filter t xs) ≡ filter t (reverse xs)
 filter_back t [] = refl
 filter_back t (x ∷ xs) =
     ap reverse (filter-append t (x ∷ []) xs)
