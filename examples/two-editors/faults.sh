@@ -73,7 +73,8 @@ play_delays() {
     substitute
     type_at_end " a$round"
   done
-  kill "$stopping" && wait "$stopping" || true
+  kill "$stopping"
+  wait "$stopping" || true
   kill -CONT "$(session_of "$room/ada")"
   ben_words() { ben_takes; ben_text | tr E e; }
   wait_for 'all that both wrote while the program stood still again and again' $'bee6 bee5 bee4 bee3 bee2 bee1 one tree\ntwo trees\nthe end a1 a2 a3 a4 a5 a6' ben_words
