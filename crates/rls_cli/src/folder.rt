@@ -8,7 +8,7 @@ ghost use Rattle.rls_journal.specs.Keeper.{disk_of};
 ghost use Rattle.rls_cli.specs.Folder.{LoadGives, StoreGives, faults_of};
 
 use rls_io::{CurrentFolder, FileKeeper, Found, Keeper, LoadError, StoreError};
-use rls_journal::{DiskKeeper, FileDisk};
+use rls_journal::{CurrentFiles, DiskKeeper, FileDisk};
 use std::alloc::Global;
 use std::fs;
 use std::rt::Files;
@@ -32,7 +32,7 @@ pub enum FolderKeeper<A, B> {
 }
 
 /// The keeper that the program uses.
-pub type ReplicaKeeper<R> = FolderKeeper<FileKeeper<CurrentFolder<R>>, DiskKeeper<FileDisk<R>>>;
+pub type ReplicaKeeper<R> = FolderKeeper<FileKeeper<CurrentFolder<R>>, DiskKeeper<FileDisk<CurrentFiles<R>>>>;
 
 /// The keeper of the file `replica.rls` if the folder has it, and otherwise of the file in two slots. If the system doesn't tell whether
 /// the folder has it, the keeper fails at each call. It makes and changes no file.
@@ -44,7 +44,7 @@ pub fn folder_keeper<R: Files + Drop>(rt: R) -> ReplicaKeeper<R>
             keeper: FileKeeper::new(CurrentFolder::new(rt)),
         },
         Ok(false) => FolderKeeper::Disk {
-            keeper: DiskKeeper::new(FileDisk::new(rt)),
+            keeper: DiskKeeper::new(FileDisk::new(CurrentFiles::new(rt))),
         },
         Err(_) => FolderKeeper::Unknown { faults: 0 },
     }

@@ -1,3 +1,5 @@
+mod Asked
+mod Called
 pub mod Held
 mod Images
 pub mod Moments

@@ -1,4 +1,5 @@
 pub mod Areas
+pub mod Calls
 pub mod Disk
 pub mod Files
 pub mod Keeper

@@ -1,7 +1,9 @@
 //! A disk with three areas, and what a crash may leave of it.
 
 ghost use Rattle.std.specs.Prelude.{◌≡◌, ◌+◌, ◌<◌, ◌≤◌, ⊤, ℕ, Bool, length, take, drop, Option, Some, is_ok, IfOk, OnOk, OnErr, IfSome};
+ghost use Rattle.rls_io.specs.Calls.{Answer, done, gave, told};
 ghost use Rattle.rls_journal.specs.Areas.{Areas, area_of};
+ghost use Rattle.rls_journal.specs.Calls.{DiskCall, Size, Read, Write, Renew, Sync};
 ghost use Rattle.rls_journal.specs.Disk.{CountsFaults, Tears, Renews, Writes, MayTear, Narrows, Follows, IsDurable, IsWritten, StaysDirty, StaysDirtyBut, Elapses};
 ghost use Rattle.rls_journal.specs.Memory.{DeviceCall, Looked, Wrote, Synced};
 
@@ -45,6 +47,9 @@ pub trait Disk {
     /// What this call makes of the disk, if it answers Ok or if it doesn't.
     ghost gives: { Self → DeviceCall → Bool → Self → Type 0 } = { λ _ _ _ _. ⊤ };
 
+    /// The same in full: what this call, with its place and its bytes, makes of the disk if it answers so.
+    ghost answers: { Self → DiskCall → Answer → Self → Type 0 } = { λ _ _ _ _. ⊤ };
+
     /// The count of bytes in an area, which is below 3. `Failed` comes only where the count of faults rose in this call.
     fn size(&mut self, area: u8) -> Result<u64, Failed>
         requires area { area < 3 }
@@ -54,6 +59,7 @@ pub trait Disk {
         ensures crash { Narrows (may_leave self.old) (may_leave self.new) }
         ensures time { Elapses (moment self.old) (moment self.new) (left_since self.old) (left_since self.new) (may_leave self.new) }
         ensures gives { gives self.old Looked (is_ok result) self.new }
+        ensures answers { answers self.old (Size area) (told result) self.new }
         ensures counted { CountsFaults result (faults self.old) (faults self.new) };
 
     /// Fills `buf` with the bytes of an area from `at` on. All of them lie within the area. After `Failed`, which comes only
@@ -67,6 +73,7 @@ pub trait Disk {
         ensures crash { Narrows (may_leave self.old) (may_leave self.new) }
         ensures time { Elapses (moment self.old) (moment self.new) (left_since self.old) (left_since self.new) (may_leave self.new) }
         ensures gives { gives self.old Looked (is_ok result) self.new }
+        ensures answers { answers self.old (Read area at (length buf.old)) (gave result buf.new) self.new }
         ensures counted { CountsFaults result (faults self.old) (faults self.new) };
 
     /// Writes over the bytes of an area from `at` on, which is at most its size, and past its end. No bytes change nothing.
@@ -82,6 +89,7 @@ pub trait Disk {
         ensures crash { Follows (Tears area at (length bytes.now)) (may_leave self.old) (may_leave self.new) }
         ensures time { Elapses (moment self.old) (moment self.new) (left_since self.old) (left_since self.new) (may_leave self.new) }
         ensures gives { gives self.old (Wrote area at bytes.now) (is_ok result) self.new }
+        ensures answers { answers self.old (Write area at bytes.now) (done result) self.new }
         ensures counted { CountsFaults result (faults self.old) (faults self.new) };
 
     /// Makes the first byte of the gate dirty, with the value that it has; there is one. Where the disk has this value, a crash
@@ -96,6 +104,7 @@ pub trait Disk {
         ensures idle { retries → Narrows (may_leave self.old) (may_leave self.new) }
         ensures time { Elapses (moment self.old) (moment self.new) (left_since self.old) (left_since self.new) (may_leave self.new) }
         ensures gives { gives self.old Looked (is_ok result) self.new }
+        ensures answers { answers self.old Renew (done result) self.new }
         ensures counted { CountsFaults result (faults self.old) (faults self.new) };
 
     /// After an Ok, a crash leaves what reads give of the bytes of this area that were dirty, or of the whole area where the
@@ -110,6 +119,7 @@ pub trait Disk {
         ensures crash { Narrows (may_leave self.old) (may_leave self.new) }
         ensures time { Elapses (moment self.old) (moment self.new) (left_since self.old) (left_since self.new) (may_leave self.new) }
         ensures gives { gives self.old (Synced area) (is_ok result) self.new }
+        ensures answers { answers self.old (Sync area) (done result) self.new }
         ensures counted { CountsFaults result (faults self.old) (faults self.new) };
 
     /// The disk as it reads is one of the images that a crash now may leave.

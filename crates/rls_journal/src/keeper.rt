@@ -7,6 +7,7 @@ ghost use Rattle.rls_io.specs.Device.{Rose, Loads, Stores, Keeps, IsWithin, one_
 ghost use Rattle.rls_io.specs.declared.devices.LoadError.TheVariants as load;
 ghost use Rattle.rls_io.specs.declared.devices.StoreError.TheVariants as store;
 ghost use Rattle.rls_journal.specs.Areas.{Areas, kept};
+ghost use Rattle.rls_journal.specs.Calls.{StoresBy};
 ghost use Rattle.rls_journal.specs.Disk.{CountsFaults, LeavesOnly};
 ghost use Rattle.rls_journal.specs.Slots.{HasStored, Holds, HoldsEither, IsSound, Looks};
 ghost use Rattle.rls_journal.specs.Keeper.{disk_of, file_told, IsStill, IsAtRest, IsOldOrNew, LoadGives, StoreGives};
@@ -52,6 +53,7 @@ fn write_file<D: Disk>(disk: &mut D, bytes: &[u8]) -> Result<(), Failed>
     ensures rest { OnOk result (IsAtRest D.retries D.seen D.may_leave disk.new) }
     ensures any_moment { IsAtRest D.retries D.seen D.may_leave disk.old → IfSome (D.seen disk.old) (λ s. LeavesOnly D.moment D.left_since disk.old disk.new (IsOldOrNew (kept s) bytes.now)) }
     ensures holds { IfSome (D.seen disk.old) (λ s. (file : Option (List ℕ)) → Holds file file s (D.may_leave disk.old) → HoldsEither D.seen D.may_leave file (Some bytes.now) disk.new) }
+    ensures calls { StoresBy D.answers bytes.now (is_ok result) disk.old disk.new }
     ensures counted { CountsFaults result (D.faults disk.old) (D.faults disk.new) }
 {
     match settle(disk)? {
@@ -114,6 +116,7 @@ impl<D: Disk> Keeper for DiskKeeper<D> {
         ensures ok { OnOk result (Stores (file_told D.seen self.old) (file_told D.seen self.new) bytes.now) }
         ensures err { OnErr result (Keeps (file_told D.seen self.new) (file_told D.seen self.old)) }
         ensures gives { StoreGives D.retries D.seen D.may_leave D.moment D.left_since bytes.now (is_ok result) (disk_of self.old) (disk_of self.new) }
+        ensures calls { StoresBy D.answers bytes.now (is_ok result) (disk_of self.old) (disk_of self.new) }
         ensures counted { IsErrOf result store.Failed → D.faults (disk_of self.new) ≡ one_more (D.faults (disk_of self.old)) }
         ensures uncounted { (IsErrOf result store.Failed → ⊥) → D.faults (disk_of self.new) ≡ D.faults (disk_of self.old) }
         ensures never_falls { D.faults (disk_of self.old) ≤ D.faults (disk_of self.new) }

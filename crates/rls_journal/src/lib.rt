@@ -4,6 +4,7 @@
 //! Why: CHOICES.md, 240.
 #![tactic(auto)]
 
+mod calls;
 mod contents;
 mod disk;
 mod files;
@@ -11,6 +12,7 @@ mod keeper;
 mod memory;
 mod slots;
 
+pub use calls::{AreaCalls, CurrentFiles, Opening};
 pub use disk::Disk;
 pub use files::FileDisk;
 pub use keeper::DiskKeeper;

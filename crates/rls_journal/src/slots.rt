@@ -1,10 +1,12 @@
 //! Loading and storing, in the device calls of which they consist.
 //! Why: docs/DECISIONS.md, 154; CHOICES.md, 36.
 
-ghost use Rattle.std.specs.Prelude.{◌≡◌, ◌-◌, ◌<◌, ◌≤◌, [], ℕ, length, Option, Some, None, IfOk, OnOk, IfSome, IsErrOf};
+ghost use Rattle.std.specs.Prelude.{◌≡◌, ◌-◌, ◌<◌, ◌≤◌, [], ℕ, length, Option, Some, None, is_ok, IfOk, OnOk, IfSome, IsErrOf};
+ghost use Rattle.rls_io.specs.Calls.{Runs};
 ghost use Rattle.rls_io.specs.Device.{IsWithin, Rose, Loads, one_more};
 ghost use Rattle.rls_io.specs.declared.devices.LoadError.TheVariants as load;
 ghost use Rattle.rls_journal.specs.Areas.{Areas, area_of, named_by, file_of, kept};
+ghost use Rattle.rls_journal.specs.Calls.{NamesBy, begin_steps, gate_steps, name_steps, put_steps, replace_steps, settle_steps};
 ghost use Rattle.rls_journal.specs.Disk.{CountsFaults, Tears, IsDurable, IsDurableAt, IsUnchanged, Changes, StaysDirty};
 ghost use Rattle.rls_journal.specs.Slots.{Strays, MayStray, IsSettled, IsSettledNow, IsSound, HoldsOn, Looks, Puts, Names, HasStored};
 
@@ -19,6 +21,7 @@ fn gate_slot<D: Disk>(disk: &mut D) -> Result<Option<u8>, Failed>
     ensures durable { OnOk result (D.retries → IfSome (D.seen disk.old) (λ s. IsDurable 2 s (D.may_leave disk.new))) }
     ensures gate { OnOk result (IfSome (D.seen disk.old) (λ s. IsDurableAt 2 0 1 s (D.may_leave disk.new))) }
     ensures looks { Looks D.retries D.seen D.may_leave D.moment D.left_since disk.old disk.new }
+    ensures calls { NamesBy D.answers gate_steps result disk.old disk.new }
     ensures counted { CountsFaults result (D.faults disk.old) (D.faults disk.new) }
 {
     if disk.size(GATE)? == 0 {
@@ -39,6 +42,7 @@ pub fn settle<D: Disk>(disk: &mut D) -> Result<Option<u8>, Failed>
     ensures small { IfOk result (λ slot. IfSome slot (λ n. n < 2)) }
     ensures settled { OnOk result (IsSound D.retries D.seen D.may_leave disk.old → IfSome (D.seen disk.old) (λ s. IsSettled s (D.may_leave disk.new))) }
     ensures looks { Looks D.retries D.seen D.may_leave D.moment D.left_since disk.old disk.new }
+    ensures calls { NamesBy D.answers settle_steps result disk.old disk.new }
     ensures counted { CountsFaults result (D.faults disk.old) (D.faults disk.new) }
 {
     let Some(named) = gate_slot(disk)? else {
@@ -100,6 +104,7 @@ fn put<D: Disk>(disk: &mut D, slot: u8, bytes: &[u8]) -> Result<(), Failed>
     ensures number { OnOk result (D.is_dirty disk.new slot 0 8) }
     ensures bytes { OnOk result (D.is_dirty disk.new slot 8 (length bytes.now)) }
     ensures changes { Changes D.may_leave D.moment D.left_since (Strays slot) disk.old disk.new }
+    ensures calls { Runs D.answers (put_steps slot bytes.now) (is_ok result) disk.old disk.new }
     ensures counted { CountsFaults result (D.faults disk.old) (D.faults disk.new) }
 {
     let number = (bytes.len() as u64).to_be_bytes();
@@ -113,6 +118,7 @@ fn name_slot<D: Disk>(disk: &mut D, slot: u8) -> Result<(), Failed>
     ensures names { OnOk result (Names slot (D.seen disk.old) (D.seen disk.new) (D.may_leave disk.new)) }
     ensures strays { MayStray 2 (D.seen disk.old) (D.seen disk.new) }
     ensures changes { Changes D.may_leave D.moment D.left_since (Tears 2 0 1) disk.old disk.new }
+    ensures calls { Runs D.answers (name_steps slot) (is_ok result) disk.old disk.new }
     ensures counted { CountsFaults result (D.faults disk.old) (D.faults disk.new) }
 {
     disk.write(GATE, 0, &[slot])?;
@@ -128,6 +134,7 @@ pub fn replace<D: Disk>(disk: &mut D, slot: u8, bytes: &[u8]) -> Result<(), Fail
     ensures any_moment { IfSome (D.seen disk.old) (λ s. named_by s.gate ≡ Some (1 - slot) → IsSettled s (D.may_leave disk.old)
         → HoldsOn D.seen D.may_leave D.moment D.left_since (kept s) (Some bytes.now) disk.old disk.new) }
     ensures settled { OnOk result (IsSettledNow D.seen D.may_leave disk.new) }
+    ensures calls { Runs D.answers (replace_steps slot bytes.now) (is_ok result) disk.old disk.new }
     ensures counted { CountsFaults result (D.faults disk.old) (D.faults disk.new) }
 {
     put(disk, slot, bytes)?;
@@ -143,6 +150,7 @@ pub fn begin<D: Disk>(disk: &mut D, bytes: &[u8]) -> Result<(), Failed>
     ensures any_moment { IfSome (D.seen disk.old) (λ s. named_by s.gate ≡ None → IsSettled s (D.may_leave disk.old)
         → HoldsOn D.seen D.may_leave D.moment D.left_since (kept s) (Some bytes.now) disk.old disk.new) }
     ensures settled { OnOk result (IsSettledNow D.seen D.may_leave disk.new) }
+    ensures calls { Runs D.answers (begin_steps bytes.now) (is_ok result) disk.old disk.new }
     ensures counted { CountsFaults result (D.faults disk.old) (D.faults disk.new) }
 {
     put(disk, 0, bytes)?;

@@ -2,7 +2,7 @@
 
 use crate::lossy::LossyDisk;
 use rls_io::{Found, Keeper, StoreError};
-use rls_journal::{DiskKeeper, FileDisk, MemoryDisk};
+use rls_journal::{CurrentFiles, DiskKeeper, FileDisk, MemoryDisk};
 use std::alloc::Global;
 use std::fs;
 use std::test::Fail;
@@ -193,10 +193,10 @@ fn stores_two(alloc: Global, keeper: &mut impl Keeper) -> bool {
 #[test]
 fn files_keep_the_file(rt: HostRuntime) {
     clear(&rt);
-    let mut keeper = DiskKeeper::new(FileDisk::new(&rt));
+    let mut keeper = DiskKeeper::new(FileDisk::new(CurrentFiles::new(&rt)));
     assert!(rt; is_clear(&rt, &mut keeper));
     assert!(rt; stores_two(rt.alloc(), &mut keeper));
-    let mut again = DiskKeeper::new(FileDisk::new(&rt));
+    let mut again = DiskKeeper::new(FileDisk::new(CurrentFiles::new(&rt)));
     assert!(rt; load(rt.alloc(), &mut again) == "new");
     clear(&rt);
 }
