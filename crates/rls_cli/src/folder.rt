@@ -32,7 +32,10 @@ pub enum FolderKeeper<A, B> {
 }
 
 /// The keeper that the program uses.
-pub type ReplicaKeeper<R> = FolderKeeper<FileKeeper<CurrentFolder<R>>, DiskKeeper<FileDisk<CurrentFiles<R>>>>;
+pub type ReplicaKeeper<R> = FolderKeeper<
+    FileKeeper<CurrentFolder<R>>,
+    DiskKeeper<FileDisk<CurrentFiles<R>>>,
+>;
 
 /// The keeper of the file `replica.rls` if the folder has it, and otherwise of the file in two slots. If the system doesn't tell whether
 /// the folder has it, the keeper fails at each call. It makes and changes no file.
