@@ -59,7 +59,7 @@ class Maker:
     def requests(self):
         back = 0 if self.is_single else 3
         kinds = {"edit": 8, "typed": 8, "undo": back, "back": back, "again": back, "groups": 1, "cursor": 1.5, "where": 1.5, "text": 1, "take": 2, "send": 1,
-                 "tell": 2.5, "store": 0.7, "stat": 0.3, "version": 0.2, "bad": 0.3}
+                 "tell": 2.5, "store": 0.7, "stat": 0.3, "costs": 0.3, "version": 0.2, "bad": 0.3}
         return [self.request(self.draw.choices(list(kinds), list(kinds.values()))[0]) for _ in range(self.draw.choice((1, 3, 6, 12, 25)))]
 
     def request(self, kind):

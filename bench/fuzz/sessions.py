@@ -9,6 +9,7 @@ from replies import Replies, Wrong
 
 MEANT = {escape: character for character, escape in ESCAPES.items()}
 MOST_DRAFT = 4096
+COSTS = ["rename", "limit", "runs", "tuples", "epochs", "own", "bytes"]
 STAT = ["group", "me", "members", "accepted", "total", "runs", "held", "unstable", "epochs", "former"]
 
 
@@ -266,6 +267,27 @@ class Session:
             need(names == STAT, names, STAT)
 
         self.newer("n\n", look)
+
+    def ask_costs(self, _):
+        """What a rename would bring: its runs and epochs are those of the numbers, right after it."""
+        if "s" not in self.member.known:
+            self.send("o\n", lambda replies: self.exactly(replies, "bad"))
+            return
+        costs = {}
+
+        def look(replies):
+            words = replies.line().split(" ")
+            costs.update(zip(words[::2], words[1::2]))
+            need(list(costs) == COSTS and costs["limit"] == "16777216", words, COSTS)
+
+        def compare(replies):
+            numbers = dict(line.split(" ", 1) for line in replies.block("stat").decode().splitlines())
+            wanted = {word: numbers[word] for word in ("runs", "epochs")}
+            need({word: costs[word] for word in wanted} == wanted and int(costs["tuples"]) >= int(costs["runs"]), costs, wanted)
+            need(int(costs["own"]) <= int(numbers["unstable"]), costs, numbers)
+
+        self.send("o\n", look)
+        self.send("n\n", compare)
 
     def ask_cursor(self, request):
         cursor, kind = request.get("cursor", 0), request.get("side", "k")

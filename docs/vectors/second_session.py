@@ -344,6 +344,8 @@ class Session:
             if alone and word in ("t", "n"):
                 data = ("".join(rep.chars) if word == "t" else S.stat_of(rep)).encode()
                 return b"%s %d\n%s\n" % (b"text" if word == "t" else b"stat", len(data), data)
+            if alone and word == "o":
+                return (self.costs() + "\n").encode()
             if word == "s" and len(numbers) in (1, 1 + rep.members) and all(k is not None and k <= S.M32 for k in numbers):
                 if n >= rep.members:
                     raise S.Refused(f"not a member {n}")
@@ -352,6 +354,15 @@ class Session:
             return (self.line(word, alone, rest, n, numbers) + "\n").encode()
         except S.Refused as e:
             return f"no {e.why}\n".encode()
+
+    def costs(self):
+        """What a rename would bring: its operation is made, whether or not it would be refused, and measured."""
+        S, rep = self.S, self.rep
+        runs = S.runs_of(rep.ids)
+        rename = S.Op(rep.me, rep.vector[rep.me] + 1, rep.vector, rep.greatest(), S.RENAME, runs=runs)
+        own = [len(S.enc_op(o)) for o in rep.unstable() if o.author == rep.me]
+        return (f"rename {len(S.enc_op(rename))} limit {S.MOST_OP} runs {len(runs)} tuples {sum(len(first) for first, _ in runs)}"
+                f" epochs {len(rep.retained())} own {len(own)} bytes {sum(own)}")
 
     def line(self, word, alone, rest, n, numbers):
         S, rep = self.S, self.rep

@@ -107,6 +107,7 @@ replied d (Does (orders.Send to)) = if nat_lt to (members d.state) then message_
 replied d (Does (orders.SendTold to told)) = if length told == members d.state then (if nat_lt to (members d.state) then message_bytes (message_told_over d.state to told) ∷ [] else []) else []
 replied d (Does (orders.Tell on)) = []
 replied d (Does orders.Stat) = []
+replied d (Does orders.Costs) = []
 replied d (Does (orders.Version n)) = []
 replied d (Does orders.Store) = []
 replied d (Does orders.Quit) = []
@@ -214,6 +215,7 @@ IsWritten g (Does (orders.Send to)) = Unit {0}
 IsWritten g (Does (orders.SendTold to told)) = Unit {0}
 IsWritten g (Does (orders.Tell on)) = Unit {0}
 IsWritten g (Does orders.Stat) = Unit {0}
+IsWritten g (Does orders.Costs) = Unit {0}
 IsWritten g (Does (orders.Version n)) = Unit {0}
 IsWritten g (Does orders.Store) = Unit {0}
 IsWritten g (Does orders.Quit) = Unit {0}

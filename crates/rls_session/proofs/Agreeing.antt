@@ -67,10 +67,12 @@ use Rattle.rls_session.proofs.Numbered.{anchored_moved, anchored_with, in_anchor
 use Rattle.rls_session.specs.declared.orders.Order.TheVariants as orders
 use Rattle.rls_session.specs.Answers.{Sitting, answer, place_text, placed, pointed, sent, sent_told, made_changes, message_changes, taken, undone, undone_changes, with_begun, with_caught_up, with_cursors}
 use Rattle.rls_session.specs.Answers as answers
+use Rattle.rls_session.specs.Costs.{costs_text}
 use Rattle.rls_session.specs.Courses.{Answered}
 use Rattle.rls_session.specs.Replies.{bad_text, bytes_text, cursor_text, failed_text, located_text, ok_text, refused_text}
 use Rattle.rls_session.specs.Requests.{Does, Request, Takes}
 use Rattle.rls_session.specs.Sessions.{by_history, by_parts}
+use Rattle.rls_session.proofs.Sizes.{costs_alike}
 use Rattle.rls_session.proofs.Entries.{caught_up_whole, entries_alike, entries_whole, whole_at, whole_front, whole_more}
 use Rattle.rls_session.proofs.Steps.{steps_begun, made_steps, steps_after}
 use Rattle.rls_session.proofs.Given.{IsGiven}
@@ -408,6 +410,7 @@ answer_alike d f (Does (orders.Take len)) g h = record { reply = refl; states = 
 answer_alike d f (Does (orders.Send to)) g h = record { reply = sent_alike d.state f.state to h.stands; states = h }
 answer_alike d f (Does (orders.SendTold to told)) g h = record { reply = sent_told_alike d.state f.state to told h.stands; states = h }
 answer_alike d f (Does orders.Stat) g h = record { reply = ap (λ (t : List ℕ). bytes_text (codes "stat") t) (stat_alike d.state f.state h.stands); states = h }
+answer_alike d f (Does orders.Costs) g h = record { reply = ap costs_text (costs_alike d.state f.state h.stands); states = h }
 answer_alike d f (Does (orders.Version n)) g h = record { reply = refl; states = h }
 answer_alike d f (Does orders.Store) g h = record { reply = refl; states = h }
 answer_alike d f (Does (orders.Tell on)) g h = record {

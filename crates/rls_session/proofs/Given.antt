@@ -51,7 +51,7 @@ given_or false o other g h = h
 letter_given : (bytes : List ℕ) → IsGood (line_of_text bytes) → IsGiven (Does (order_of_letter bytes))
 letter_given bytes g =
     given_or (bytes_eq bytes (codes "u")) orders.Undo _ tt (given_or (bytes_eq bytes (codes "z")) orders.Back _ tt (given_or (bytes_eq bytes (codes "y")) orders.Again _ tt (given_or (bytes_eq bytes (codes "g")) orders.Close _ tt (given_or (bytes_eq bytes (codes "p")) (orders.Place 0) _ tt (given_or (bytes_eq bytes (codes "t")) orders.Text _ tt (given_or (bytes_eq bytes (codes "n")) orders.Stat _ tt
-    (given_or (bytes_eq bytes (codes "v")) (orders.Version 2) _ tt (given_or (bytes_eq bytes (codes "w")) orders.Store _ tt (given_or (bytes_eq bytes (codes "q")) orders.Quit _ tt (edit_given bytes (line_of_text bytes) g))))))))))
+    (given_or (bytes_eq bytes (codes "o")) orders.Costs _ tt (given_or (bytes_eq bytes (codes "v")) (orders.Version 2) _ tt (given_or (bytes_eq bytes (codes "w")) orders.Store _ tt (given_or (bytes_eq bytes (codes "q")) orders.Quit _ tt (edit_given bytes (line_of_text bytes) g)))))))))))
 
 -- ---- changes
 

@@ -19,6 +19,7 @@ pub mod Called
 pub mod Closing
 pub mod Entries
 mod Counts
+pub mod Sizes
 pub mod Given
 pub mod Steps
 pub mod AlikeSittings

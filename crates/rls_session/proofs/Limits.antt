@@ -51,7 +51,7 @@ one_letter bs letter o other one f h = go (bytes_eq bs letter) refl h
 
 letter_halts : (bs : List ℕ) → IsHalt (order_of_letter bs) → length bs ≡ 1
 letter_halts bs h =
-    one_letter bs (codes "u") _ _ refl (one_letter bs (codes "z") _ _ refl (one_letter bs (codes "y") _ _ refl (one_letter bs (codes "g") _ _ refl (one_letter bs (codes "p") _ _ refl (one_letter bs (codes "t") _ _ refl (one_letter bs (codes "n") _ _ refl (one_letter bs (codes "v") _ _ refl (one_letter bs (codes "w") _ _ refl (one_letter bs (codes "q") _ _ refl (λ k. absurd (edit_halts (line_of_text bs) k))))))))))) h
+    one_letter bs (codes "u") _ _ refl (one_letter bs (codes "z") _ _ refl (one_letter bs (codes "y") _ _ refl (one_letter bs (codes "g") _ _ refl (one_letter bs (codes "p") _ _ refl (one_letter bs (codes "t") _ _ refl (one_letter bs (codes "n") _ _ refl (one_letter bs (codes "o") _ _ refl (one_letter bs (codes "v") _ _ refl (one_letter bs (codes "w") _ _ refl (one_letter bs (codes "q") _ _ refl (λ k. absurd (edit_halts (line_of_text bs) k)))))))))))) h
 
 -- those with a word and more aren't
 any_halts : {A : Type 0} (order : A → Order) → ((x : A) → IsHalt (order x) → ⊥) → (o : Option A) → IsHalt (order_or_bad order o) → ⊥

@@ -133,6 +133,7 @@ done_writable d (orders.Take len) w = w
 done_writable d (orders.Send to) w = w
 done_writable d (orders.SendTold to told) w = w
 done_writable d orders.Stat w = w
+done_writable d orders.Costs w = w
 done_writable d (orders.Version n) w = w
 done_writable d orders.Store w = w
 done_writable d (orders.Tell on) w = w

@@ -27,7 +27,9 @@ use Rattle.rls_anchor.specs.declared.anchor.Anchor.{Anchor}
 use Rattle.rls_session.specs.declared.desk.TheConstants.{KEPT_ENTRIES}
 use Rattle.rls_steps.specs.declared.steps.Turn.{Turn}
 use Rattle.rls_steps.specs.declared.steps.Turn.TheVariants as turns
+use Rattle.rls_session.specs.declared.costs.Costs.{Costs}
 use Rattle.rls_session.specs.declared.cursors.Cursor.{Cursor}
+use Rattle.rls_session.specs.Costs.{costs_text}
 use Rattle.rls_session.specs.Cursors.{cursor_in, cursors_moved, cursors_with, moved}
 use Rattle.rls_session.specs.declared.orders.Side.{Side}
 use Rattle.rls_session.specs.declared.orders.Side.TheVariants.{Before}
@@ -84,6 +86,8 @@ pub record Kind (X : Type 0) : Type 0 where
   pub message_told : X → ℕ → List ℕ → Message
   -- the numbers, as `stat` prints them
   pub stat : X → List ℕ
+  -- what a rename would bring
+  pub costs : X → Costs
   -- an entry, an anchor, and what is recorded, taken to the greatest epoch, and the state without what every member has
   pub settled : X → Entry → Entry
   pub settled_anchor : X → Anchor → Anchor
@@ -327,6 +331,7 @@ done K d (orders.Take len) = says [] d
 done K d (orders.Send to) = says (sent K d.state to) d
 done K d (orders.SendTold to told) = says (sent_told K d.state to told) d
 done K d orders.Stat = says (stat_reply K d.state) d
+done K d orders.Costs = says (costs_text (K.costs d.state)) d
 done K d (orders.Version n) = says (version_text n) d
 done K d orders.Store = says [] d
 done K d (orders.Tell on) = says (telling_text on) (with_telling d on)

@@ -5,6 +5,7 @@ pub mod Intake
 pub mod Replies
 pub mod ChangeLines
 pub mod Cursors
+pub mod Costs
 pub mod Answers
 pub mod Drafts
 pub mod Seats

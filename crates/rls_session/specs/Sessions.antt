@@ -26,6 +26,7 @@ use Rattle.rls_anchor.specs.Anchors.{anchor_before_over, anchor_over, before, be
 use Rattle.rls_anchor.specs.Elsewhere.{located, located_over}
 use Rattle.rls_anchor.specs.Anchors as anchors
 use Rattle.rls_session.specs.Answers.{Kind, Sitting}
+use Rattle.rls_session.specs.Costs.{costs_of, costs_over}
 use Rattle.rls_session.specs.Courses.{Course}
 use Rattle.rls_session.specs.Cursors.{on_side}
 use Rattle.rls_session.specs.Seats.{session_from}
@@ -64,6 +65,7 @@ by_parts = record {
   message = message_over;
   message_told = message_told_over;
   stat = stat_over;
+  costs = costs_over;
   settled = settled_over;
   settled_anchor = anchors.settled_over;
   settled_steps = settled_on over;
@@ -115,6 +117,7 @@ by_history = record {
   message = λ t to. message_for t.history to;
   message_told = λ t to told. message_told t.history to told;
   stat = stat_of;
+  costs = costs_of;
   settled = λ t entry. settled t.history entry;
   settled_anchor = λ t a. anchors.settled t.history a;
   settled_steps = settled_on within;

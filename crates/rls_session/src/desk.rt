@@ -31,7 +31,7 @@ use crate::cursors::Cursors;
 use crate::orders::{Order, Side};
 use crate::places::anchor_of;
 use crate::telling::{refused, take_message, undo_last};
-use crate::{places, replies, showing};
+use crate::{costs, places, replies, showing};
 use rls_anchor::AnchorError;
 use rls_changes::{Change, push_own, release_all};
 use rls_ident::rely;
@@ -120,6 +120,7 @@ impl Desk {
                 showing::message_told(alloc, &self.replica, to, &told)
             }
             Order::Stat => showing::stat(alloc, &self.replica),
+            Order::Costs => costs::tell_costs(alloc, &self.replica),
             Order::Tell { on } => self.tell_from_now(alloc, on),
             Order::Version { number } => replies::version(alloc, number),
             Order::Bad => replies::bad(alloc),

@@ -1,5 +1,6 @@
 //! Laws: facts over the definitions, for all values. Each call runs nothing and takes no memory; its contract states the fact.
 
+ghost use Rattle.rls_session.specs.Costs.{RenamesAsTold};
 ghost use Rattle.rls_session.specs.Drafts.{MergesShown};
 ghost use Rattle.rls_session.specs.SessionLaws.{ChangesAreEdits, ChangesShow, CoursesAreRequests, DraftsAreMade, ToldIsFound};
 ghost use Rattle.rls_session.specs.Remembering.{TextsAlong, TextsAtFirst, TextsStay};
@@ -8,6 +9,12 @@ ghost use Rattle.rls_session.specs.Turns.{TurnsTakeOwn, UndoneAtOnce};
 /// The word that `a AT` answers is found by `l` at the same replica: where nothing has happened since, the reply is AT.
 pub fn told_places_are_found()
     ensures found { ToldIsFound }
+{}
+
+/// What `o` tells of a rename's size is what decides at the same replica: above the limit no rename is made, and one that is refused as too large is
+/// refused with this number.
+pub fn renames_as_told()
+    ensures told { RenamesAsTold }
 {}
 
 /// Where a change goes on with a draft, the text with both in it is the one with the draft in it, changed so.

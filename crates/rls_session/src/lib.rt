@@ -4,6 +4,7 @@
 
 mod answering;
 mod change_lines;
+mod costs;
 mod cursors;
 mod desk;
 mod draft;

@@ -141,6 +141,8 @@ const ROWS: &[&str] = &[
     "v 4\nv 3\nv 1\nv 2\nv 5\nv 0\nv x\nv \nv\n | version 4\nversion 3\nversion 1\nversion 2\nbad\nbad\nbad\nbad\nversion 2\nsaved\n | same",
     // Messages by told counts: one for each member, each a number, with one space between two.
     "s 1 0\ns 1 0 0 0\ns 2 0 0\ns 2 0\ns 1 0 0 \ns 1  0 0\ns 1 0 x\ns 1 0 4294967296\ns x 0 0\n | bad\nbad\nno not a member 2\nbad\nbad\nbad\nbad\nbad\nbad\nsaved\n | same",
+    // What a rename would bring: of three runs, of what it made of them, of an empty text, and with a draft.
+    "i 2 XY\no\nr\no\nd 0 7\no\nr\ne 0 0 draft\no\no \nO\n | ok 2\nrename 114 limit 16777216 runs 3 tuples 4 epochs 1 own 2 bytes 110\nok 3\nrename 55 limit 16777216 runs 1 tuples 1 epochs 2 own 3 bytes 224\nok 4\nrename 30 limit 16777216 runs 0 tuples 0 epochs 2 own 4 bytes 279\nno empty document\nok\nrename 55 limit 16777216 runs 1 tuples 1 epochs 2 own 5 bytes 335\nbad\nbad\nsaved\n | other",
     // Changes of an editor: one, at the end without a line feed; and what comes to nothing.
     "e 4 1 X\nt\n | ok\ntext 5\nhellX\nsaved\n | other",
     "e 0 1 J | ok\nsaved\n | other",
