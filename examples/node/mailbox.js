@@ -6,6 +6,7 @@ import path from 'node:path';
 import { Refused, RlsError, Stale, UsedTwice } from './errors.js';
 import { regular, replace, sizeOf, timesOf } from './files.js';
 import { headOf } from './reports.js';
+import { toldOfFile, toldOfMember } from './telling.js';
 import * as tokens from './tokens.js';
 
 const MOST_MESSAGE = 67_108_864;
@@ -34,6 +35,7 @@ const doubted = async (folder, own) => {
 export class Mailbox {
   #taken = new Map();
   #sent = new Map();
+  #limitsTold = new Set(); // members, and the own one for the stored file
   #refused = new Map(); // messages whose heads aren't what their names say: each is told once
   #ahead = new Map(); // what is said of each member whose message counts what wasn't made here
   #shownCursor = '';
@@ -176,10 +178,12 @@ export class Mailbox {
     for (const line of this.#ahead.values()) {
       throw new Stale(`${line}. The files in ${session.folder} are old, or the number is used twice: nothing is sent. Or somebody forged it: then delete it`);
     }
+    this.#tellOnce(this.head.me, await toldOfFile(session.folder));
     const failed = [];
     let count = 0;
     for (const to of this.#others()) {
       const message = await session.message(to, await this.#told(to));
+      this.#tellOnce(to, await toldOfMember(to, message.length, this.path(to, this.head.me)));
       const mark = createHash('sha256').update(message).digest('hex');
       if ((await this.#isThere(session, to, message, mark)) || (await this.#isEnough(to, message))) continue;
       try {
@@ -192,6 +196,11 @@ export class Mailbox {
       }
     }
     return { failed, count };
+  }
+
+  #tellOnce(member, line) {
+    if (line && !this.#limitsTold.has(member)) process.emitWarning(line);
+    if (line) this.#limitsTold.add(member);
   }
 
   /** What names, sizes and times in both folders are. The gate's time says nothing: what only reads renews it. */

@@ -6,11 +6,11 @@ import { changesOf, changesTold, CHARACTERS, crossed, placeAfter } from './chang
 import { changeOf, validText, editsOf, lineOf } from './edits.js';
 import { Refused, RlsError } from './errors.js';
 import { Program } from './program.js';
+import { costsOf, MOST_RUNS, Renaming } from './renaming.js';
 import { headOf, statOf } from './reports.js';
 import { Text } from './text.js';
 
 const MOST_INPUT = 67_108_864 - 4_096; // bytes that a session reads before it stores, less some
-const MOST_RUNS = 500; // runs of identifiers from which a rename is due
 const AT_ONCE = 256; // changes that are handed on before their replies are read, with version 3
 const REST = [1000, 3000]; // milliseconds from the last change to a store, and at most from the first one
 const HOLD = 3000; // the same, if the last change took something away: what is put in its place comes then
@@ -28,7 +28,7 @@ export class Session extends EventEmitter {
   #isAsking = false;
   #version = 1;
   #given = 0;
-  #changed = MOST_RUNS;
+  #renaming = new Renaming();
   #failure = null;
   #isEnding = false;
   #typed = null; // when the first and the last change were made that aren't stored yet, and whether the last one only took something away
@@ -51,7 +51,7 @@ export class Session extends EventEmitter {
     return session;
   }
 
-  /** What the program speaks: 1, 2 or 3. */
+  /** What the program speaks: 1, 2, 3 or 4. */
   get version() {
     return this.#version;
   }
@@ -196,13 +196,17 @@ export class Session extends EventEmitter {
     await this.#roomFor(Buffer.byteLength(line) + 64);
     await this.#ask(line);
     this.#edited(1);
+    this.#renaming.put(Buffer.byteLength(line));
   }
 
   /** Hands changes on without waiting for a reply to each: nothing of others happens in the session between them. */
   async #handOn(edits) {
     const lines = edits.splice(0, AT_ONCE).map((change) => lineOf(change, this.#version));
     await this.#roomFor(lines.reduce((sum, line) => sum + Buffer.byteLength(line) + 1, 64));
-    for (const line of lines) this.#put(line);
+    for (const line of lines) {
+      this.#put(line);
+      this.#renaming.put(Buffer.byteLength(line));
+    }
     let refused = null;
     for (const line of lines) {
       const reply = await this.#program.line();
@@ -214,7 +218,7 @@ export class Session extends EventEmitter {
   }
 
   #edited(count) {
-    this.#changed += count;
+    this.#renaming.changed(count);
     this.isUnsaved = true;
   }
 
@@ -300,6 +304,7 @@ export class Session extends EventEmitter {
         }
         if (this.#version < 2) await this.#compare(before);
         this.#edited(1);
+        this.#renaming.put(NaN);
         return true;
       },
     });
@@ -433,17 +438,25 @@ export class Session extends EventEmitter {
 
   async #store() {
     await (this.#version >= 2 ? this.#storeAndGoOn() : this.#beginAgain());
-    if (this.renameAt <= 0 || this.#changed * 8 < this.renameAt) return;
-    this.#changed = 0;
-    const stat = this.#version >= 2 ? await this.#stat() : statOf((await promisify(execFile)(this.#command, ['stat'], { cwd: this.folder })).stdout);
-    if (stat.runs[0] <= this.renameAt * Math.min(8, stat.epochs[0])) return;
+    if (!(await this.#renaming.isDue(this.renameAt, async () => (this.#version < 4 ? null : costsOf(await this.#line('o'))), () => this.#numbers())) || !(await this.#rename())) return;
+    await (this.#version >= 2 ? this.#storeAndGoOn() : this.#beginAgain());
+  }
+
+  async #numbers() {
+    if (this.#version >= 2) return this.#stat();
+    return statOf((await promisify(execFile)(this.#command, ['stat'], { cwd: this.folder })).stdout);
+  }
+
+  /** Whether the rename was accepted. */
+  async #rename() {
     try {
       await this.#ask('r');
     } catch (error) {
-      if (error instanceof Refused) return;
-      throw error;
+      if (!(error instanceof Refused)) throw error;
+      this.#renaming.refused(error.line);
+      return false;
     }
-    await (this.#version >= 2 ? this.#storeAndGoOn() : this.#beginAgain());
+    return true;
   }
 
   async #storeAndGoOn() {

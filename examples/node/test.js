@@ -6,10 +6,38 @@ import path from 'node:path';
 import { test } from 'node:test';
 import { changesOf, CHARACTERS } from './changes.js';
 import { applied, compared, crossed, placeAfter, Refused, RlsError, Session, Text } from './rls.js';
+import { costsOf, Renaming } from './renaming.js';
 import { exchange, folders, opened, pick, random, rls, room, stored, type, version } from './room.js';
 import './test-files.js';
 import './test-mailbox.js';
 import './test-reflow.js';
+
+test('a rename is due when it pays', async () => {
+  const asks = (renaming) => async (rename, epochs, own, bytes) => {
+    const costs = costsOf(`rename ${rename} limit 16777216 runs 1 tuples 1 epochs ${epochs} own ${own} bytes ${bytes}`);
+    return renaming.isDue(500, async () => costs, async () => ({ members: [2], runs: [1], epochs: [1] }));
+  };
+  const renaming = new Renaming();
+  const due = asks(renaming);
+  // What all members did is looked at first of all, and after 63 changes.
+  assert.equal(await due(32_001, 1, 0, 0), true);
+  assert.equal(await due(32_001, 1, 1, 32_001), false);
+  renaming.changed(63);
+  assert.equal(await due(32_000, 1, 1, 32_001), false);
+  renaming.changed(63);
+  assert.equal(await due(4_194_304, 2, 1, 32_001), false);
+  renaming.changed(63);
+  assert.equal(await due(4_194_305, 2, 1, 32_001), true);
+  // What this one spent, always: beside the text, and 208 bytes for each operation.
+  renaming.put(500);
+  assert.equal(await due(1_000, 2, 4, 4_226_306 + 500 + 2 * 208 + 1_000), false);
+  assert.equal(await due(1_000, 2, 5, 4_226_306 + 500 + 3 * 208 + 1_001), true);
+  // What an undo puts in nobody knows; and where others have taken some, what is left is new.
+  renaming.put(NaN);
+  assert.equal(await due(1_000, 2, 9, 9_000_000), false);
+  assert.equal(await due(1_000, 2, 1, 1_208), false);
+  assert.equal(await due(1_000, 2, 2, 1_208 + 209), true);
+});
 
 test('places in units and in characters', () => {
   let string = '';

@@ -259,6 +259,27 @@ class ByCommands(Room):
             warnings.simplefilter("error")
             a.rename_if_due()
 
+    def test_limits_are_told_before_they_are_met(self):
+        """Once: how much is kept for a member of whom nothing comes, and a file that is nearly full."""
+        a, b = self.two(3)[:2]
+        boxes = [Mailbox(self.path("shared"), x.head()) for x in (a, b)]
+        b.insert(0, "bb")
+        boxes[1].sync(b)
+        old = time.time() - 8 * 86400
+        os.utime(boxes[1].path(1, 0), (old, old))
+        a.insert(0, "aa")
+        with mock.patch.object(limits, "MOST_KEPT", 40), mock.patch.object(limits, "NEARLY_FULL", 100):
+            with warnings.catch_warnings(record=True) as said:
+                warnings.simplefilter("always")
+                for _ in range(2):
+                    boxes[0].sync(a)
+                    a.insert(0, "more")
+        told = [str(x.message) for x in said]
+        self.assertEqual(len(told), 3, told)
+        self.assertRegex(told[0], f"for member 1, of whom nothing has come since {time.strftime('%Y-%m-%d', time.localtime(old))}.*`rls restart`")
+        self.assertRegex(told[1], "for member 2, of whom nothing ever came.*`rls retire 2`")
+        self.assertRegex(told[2], "has [0-9]+ bytes of the 268,435,456 that it may have")
+
     def test_number_that_nobody_uses(self):
         """It doesn't get every message, and whoever begins with it later gets all."""
         a, b = self.two(3)[:2]

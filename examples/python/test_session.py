@@ -2,6 +2,7 @@
 import os
 import random
 import signal
+import struct
 import unittest
 from unittest import mock
 
@@ -310,6 +311,74 @@ class SecondVersion(Room):
         self.assertEqual(s.stat()["runs"], (1,))
         s.undo_group()
         self.assertEqual(s.text()[:3], "aXb")
+
+
+class ByCosts(Room):
+    """When a session renames."""
+
+    def one(self):
+        a, _ = self.two()
+        s = Session(a.folder)
+        self.addCleanup(s.kill)
+        try:
+            s.costs()
+        except RlsError:
+            self.skipTest("the program has no line `o`")
+        return s
+
+    def long_end(self, tuples):
+        """A message of member 1 that puts one character at the very end, under an identifier of so many tuples."""
+        ident = struct.pack(">I", tuples + 1) + b"\2" * tuples + b"\1" + struct.pack(">IIIi", 5, 1, 1, 0)
+        op = struct.pack(">IIII", 1, 1, 1, 0) + b"\0" + b"\0" + ident + struct.pack(">I", 1) + b"!"
+        return b"RLSM\3" + struct.pack(">QIIIII", 7, 2, 1, 1, 1, 1) + op
+
+    def test_what_is_told_is_what_a_rename_has(self):
+        s = self.one()
+        self.many_runs(s)
+        before = s.costs()
+        self.assertGreater(before.tuples, before.runs)
+        s.rename()
+        after = s.costs()
+        self.assertEqual((after.own, after.bytes, after.runs, after.tuples), (before.own + 1, before.bytes + before.rename, 1, 1))
+
+    def test_edits_that_have_become_dear(self):
+        s = self.one()
+        s.insert(0, "hello")
+        s.save()
+        s.take(self.long_end(10_000))
+        sizes = []
+        for k in range(6):
+            before = s.costs().bytes
+            s.insert(6 + k, "x")
+            sizes.append(s.costs().bytes - before)
+            s.save()
+        self.assertGreater(sizes[0], 10_000)
+        self.assertLess(sizes[-1], 100)
+        self.assertEqual((s.stat()["epochs"], s.text()), ((2,), "hello!xxxxxx"))
+
+    def test_while_somebody_is_away(self):
+        """It renames once, until the text could soon not be renamed any more."""
+        s = self.one()
+        for _ in range(3):
+            self.many_runs(s)
+            s.save()
+        self.assertEqual(s.stat()["epochs"], (2,))
+        self.assertGreater(s.stat()["runs"][0], 40)
+        with mock.patch.object(limits, "LATEST", 10_000):
+            self.many_runs(s)
+            s.save()
+        self.assertEqual((s.stat()["epochs"], s.stat()["runs"]), ((3,), (1,)))
+
+    def test_what_an_undo_puts_in_is_not_spent(self):
+        s = self.one()
+        s.insert(0, "x" * 100_000)
+        s.delete(0, 100_000)
+        s.save()
+        s.undo()
+        s.save()
+        s.insert(0, "y")
+        s.save()
+        self.assertEqual(s.stat()["epochs"], (1,))
 
 
 class ByChanges(Room):

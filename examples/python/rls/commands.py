@@ -50,15 +50,19 @@ class Editing:
         self.edit(["r"])
 
     def rename_by(self, told: Stat) -> None:
-        """Renames if there are more runs than RENAME_AT for each epoch that is kept, of which 8 count (docs/USE.md, "When to rename"). A
-        rename that is refused is a warning, once."""
+        """Renames if there are more runs than RENAME_AT for each epoch that is kept, of which 8 count (docs/USE.md, "When to rename")."""
         if limits.RENAME_AT > 0 and told["runs"][0] > limits.RENAME_AT * min(8, told["epochs"][0]):
-            try:
-                self.rename()
-            except Refused as e:
-                if not self.warned:
-                    warnings.warn(f"the rename was refused ({e.line.splitlines()[0]}): docs/USE.md, \"When to rename\", says what to do")
-                self.warned = True
+            self.rename_now()
+
+    def rename_now(self) -> None:
+        """Renames. If that is refused, it is a warning, once."""
+        try:
+            self.rename()
+        except Refused as e:
+            if not self.warned:
+                warnings.warn(f"the text can't be renamed any more ({e.line.splitlines()[0]}), so files and messages stay large: `rls restart` "
+                              "begins anew with the text (docs/USE.md, \"Where a limit is met\")")
+            self.warned = True
 
 
 class Commands(Editing):

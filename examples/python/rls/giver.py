@@ -25,7 +25,7 @@ class Holding(Session):
     def edit(self, lines: Sequence[str]) -> None:
         raise AssertionError("a spare number makes no operation")
 
-    def rename_by(self, told: Stat) -> None:
+    def rename_now(self) -> None:
         """Whoever writes renames."""
 
 

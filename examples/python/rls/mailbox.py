@@ -13,6 +13,7 @@ from .folders import regular, replace, size_of
 from .reports import Head, Report
 from .session import Session
 from .stored import state_of
+from .telling import told_of_file, told_of_member
 
 Replica = Union[Commands, Session]
 Found = List[Tuple[int, Union[Report, RlsError]]]
@@ -41,6 +42,7 @@ class Mailbox:
         self.taken: Dict[int, bytes] = {}
         self.sent: Dict[int, bytes] = {}
         self.warned: Set[int] = set()
+        self.limits_told: Set[int] = set()              # members, and the own one for the stored file
         self.refused: Dict[int, bytes] = {}         # messages whose heads aren't what their names say: each is told once
         self.ahead: Dict[int, str] = {}             # what is said of each member whose message counts what wasn't made here
         self.shown: Optional[str] = None
@@ -164,6 +166,7 @@ class Mailbox:
             if to == self.me:
                 continue
             message = replica.message(to, self._told(to))
+            self._tell_once(to, told_of_member(to, len(message), self.path(to, self.me)))
             mark = hashlib.sha256(message).digest()
             own = own or replica.head()
             if self._is_there(to, message, mark, own) or self.is_enough(to, message):
@@ -180,6 +183,11 @@ class Mailbox:
             self.sent[to] = mark
             count += 1
         return count
+
+    def _tell_once(self, member: int, line: Optional[str]) -> None:
+        if line and member not in self.limits_told:
+            self.limits_told.add(member)
+            warnings.warn(line)
 
     def _mark(self, replica: Replica) -> str:
         """What the names, sizes and times in both folders are: one look, which starts no program."""
@@ -216,6 +224,7 @@ class Mailbox:
         except Stale as e:
             e.found = reports
             raise
+        self._tell_once(self.me, told_of_file(replica.folder))
         taken = {sender: mark.hex() for sender, mark in self.taken.items()}
         is_quiet = not reports and not sent and not self.warned
         write_note(replica.folder, {"mark": before if is_quiet else "", "state": sum_of(state_of(replica.folder)), "taken": taken})

@@ -10,6 +10,7 @@ from .commands import Commands, Editing
 from .edits import Change, change_of, changes_told, escaped, no_surrogates
 from .errors import Refused, RlsError
 from .folders import locked
+from .renaming import Costs, Renaming
 from .reports import Groups, Head, Report, Stat, stat_of
 
 TELLING = set("idbruzym")        # the requests whose replies tell what changed, if that is asked for
@@ -32,6 +33,7 @@ class Session(Editing):
         self.saving, self.unsaved, self.telling = False, False, False
         self.stored, self.changed = Commands(folder, program), limits.RENAME_AT
         self.typed: Optional[Tuple[float, float, bool]] = None
+        self.renaming, self.members = Renaming(), 0
         self._news: List[Change] = []
         # One lock for the whole life of this object: `save` ends one program and begins another, and nobody may come in between.
         self.stored.held = locked(self.folder, 0, ("session",))
@@ -139,6 +141,7 @@ class Session(Editing):
         for line in lines:
             self._ask(line)
             self._edited()
+            self.renaming.note(len(line.encode("utf-8")))
             self._note_typed(False)
 
     def replace(self, at: int, count: int, text: str) -> None:
@@ -148,6 +151,7 @@ class Session(Editing):
         elif count or text:
             self._ask(f"e {at} {count} {escaped(no_surrogates(text))}")
             self._edited()
+            self.renaming.note(len(text.encode("utf-8")))
         self._note_typed(count > 0 and not text)
 
     def set_text(self, new: str) -> bool:
@@ -184,6 +188,7 @@ class Session(Editing):
                 return None
             raise
         self._edited()
+        self.renaming.note(None)
         return reply
 
     def undo(self) -> int:
@@ -267,6 +272,12 @@ class Session(Editing):
         """What `rls stat` prints, of the replica as it is now. Version 2."""
         return stat_of(self._bytes(int(self._ask_new("n")[1])))
 
+    def costs(self) -> Costs:
+        """What a rename would bring. Version 4."""
+        if self.version < 4:
+            raise RlsError(4, "o: this program has an older version of the session", ("session",))
+        return Costs.told(self._ask("o"))
+
     def head(self) -> Head:
         """Who this is. In the first version no line asks it, so it is read from a message."""
         if self.version < 2:
@@ -280,15 +291,16 @@ class Session(Editing):
             self.save()
 
     def save(self) -> None:
-        """Stores. It renames if that is due; it looks only if an eighth of RENAME_AT has changed since it looked last."""
+        """Stores. It renames if that is due."""
         self.saving, self.typed = True, None
         try:
             if self.version < 2:
                 self._begin_again()
             else:
+                was_edited = self.unsaved
                 self._store()
-                if self._is_look_due():
-                    self.rename_by(self.stat())
+                if was_edited and limits.RENAME_AT > 0:
+                    self._rename_if_due()
                     if self.unsaved:
                         self._store()
         except BaseException:
@@ -297,6 +309,22 @@ class Session(Editing):
             raise
         finally:
             self.saving = False
+
+    def _rename_if_due(self) -> None:
+        """Where a program has no line `o`, it looks only if an eighth of RENAME_AT has changed since it looked last."""
+        is_long_ago = self._is_look_due()
+        try:
+            costs = self.costs()
+        except RlsError as e:
+            if e.status != 4:
+                raise
+            if is_long_ago:
+                self.rename_by(self.stat())
+            return
+        self.members = self.members or self.head().members
+        if self.renaming.is_due(costs, self.members, is_long_ago):
+            self.rename_now()
+            self.renaming.renamed(costs)
 
     def _is_look_due(self) -> bool:
         is_due = limits.RENAME_AT > 0 and self.changed * 8 >= limits.RENAME_AT

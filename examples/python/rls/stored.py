@@ -31,6 +31,18 @@ def state_of(folder: str) -> State:
     return (_gate(folder), *found)
 
 
+def size_of_stored(folder: str) -> int:
+    """The bytes of the replica as it was stored last; 0 if that can't be read."""
+    gate = _gate(folder)
+    try:
+        if not gate or os.path.exists(os.path.join(folder, OLD)):
+            return os.stat(os.path.join(folder, OLD)).st_size
+        with open(os.path.join(folder, SLOTS[gate[0] & 1]), "rb") as file:
+            return int.from_bytes(file.read(8), "big")
+    except OSError:
+        return 0
+
+
 def head_of(folder: str) -> Optional[Head]:
     """Who has the replica, and how many operations of each member it knows. None if that can't be read so: the program tells it then."""
     for _ in range(3):
