@@ -3,6 +3,7 @@
 ;;; Code:
 
 (require 'rls-files)
+(require 'rls-limits)
 (require 'rls-session)
 (require 'rls-changes)
 (require 'rls-tokens)
@@ -202,7 +203,10 @@ made here, nothing is written."
   "Writes MESSAGES to members, as far as they are new.
 It says before that this replica writes."
   (let ((due (seq-remove (lambda (x) (or (equal (cdr x) (alist-get (car x) rls--sent)) (rls--enough-p (car x) (cdr x)))) messages)) is-shown)
-    (dolist (x due) (setf (alist-get (car x) rls--last) (cdr x)))
+    (rls--tell-once 'file (rls--told-of-file rls--folder))
+    (dolist (x due)
+      (setf (alist-get (car x) rls--last) (cdr x))
+      (rls--tell-once (car x) (rls--told-of-member (car x) (length (cdr x)) (rls--path (car x) rls--me))))
     (when (and due (not rls--ahead) (rls--shared-p) (rls--may-write-p))
       (setq due (seq-remove (lambda (x) (rls--written-p (car x) (cdr x))) due))
       (dolist (x (unless rls--twice due))

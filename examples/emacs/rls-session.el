@@ -14,6 +14,7 @@
 (defvar-local rls--version 1 "What the program speaks: 1, 2, 3 or 4.")
 (defvar-local rls--telling nil "Whether replies tell changes.")
 (defvar-local rls--given 0 "Bytes that the session was given since it stored.")
+(defvar-local rls--put 0 "Bytes of text that were put in since the last look; nil if nobody knows.")
 (defvar-local rls--waiting nil
   "A request without a reply after the other.
 Each is its first character, and what handles its reply.")
@@ -111,6 +112,9 @@ the session is TELLING them."
   (unless rls--waiting (setq rls--heard (float-time)))
   (let ((sent (concat (encode-coding-string request 'utf-8-unix) "\n" data)))
     (setq rls--given (+ rls--given (length sent)))
+    (pcase (aref request 0)
+      ((or ?e ?i) (when rls--put (setq rls--put (+ rls--put (length sent)))))
+      ((or ?u ?z ?y) (setq rls--put nil)))
     (let ((entry (list (cons (aref request 0) handler))))
       (if rls--waiting (setcdr rls--waiting-end entry) (setq rls--waiting entry))
       (setq rls--waiting-end entry))

@@ -16,6 +16,7 @@
 
 (require 'rls-compare)
 (require 'rls-session)
+(require 'rls-renaming)
 (require 'rls-changes)
 (require 'rls-mailbox)
 (require 'rls-circle)
@@ -32,7 +33,6 @@ It needs the second version of the session."
 (defvar rls--busy nil "Whether a request waits for its reply, so that nothing else may ask.")
 (defvar-local rls--folder nil)
 (defvar-local rls--name nil "The name of the buffer.")
-(defvar-local rls--told nil "Whether it was said that a rename was refused.")
 (defvar-local rls--timer nil)
 
 (defun rls--send-due (buffer)
@@ -179,23 +179,26 @@ goes over, and what `u' could take back doesn't."
   "The number after WORD in what `rls stat' prints."
   (if (string-match (format "^%s \\([0-9]+\\)$" word) stat) (string-to-number (match-string 1 stat)) 0))
 
+(defun rls--rename-due-p ()
+  "Whether a rename is due.
+Where the program has no line `o', or somebody else may have changed what is
+long, it looks only if an eighth of the limit has changed since it looked last."
+  (when (> rls-rename-at 0)
+    (let* ((is-long-ago (>= (* 8 rls--changes) rls-rename-at)) (told (if (>= rls--version 4) (rls--ask "o") "bad")))
+      (when is-long-ago (setq rls--changes 0))
+      (cond ((not (equal told "bad")) (rls--rename-pays-p told rls--members rls-rename-at is-long-ago))
+            (is-long-ago
+             (let ((stat (rls--stat)))
+               (> (rls--number-of "runs" stat) (* rls-rename-at (min 8 (rls--number-of "epochs" stat))))))))))
+
 (defun rls--rename-if-due ()
-  "Renames if there are too many runs of identifiers.
-The more epochs are kept, because some member hasn't taken the last renames,
-the longer it waits.  It looks only when something has changed since, an eighth
-of the limit at least."
-  (when (and (> rls-rename-at 0) (>= (* 8 rls--changes) rls-rename-at))
-    (setq rls--changes 0)
-    (let ((stat (rls--stat)))
-      (when (> (rls--number-of "runs" stat) (* rls-rename-at (min 8 (rls--number-of "epochs" stat))))
-        (let* ((told (rls--ask-all "r")) (reply (car told)))
-          (if (string-prefix-p "no " reply)
-              (unless rls--told
-                (setq rls--told t)
-                (message "rls: the rename was refused (%s): docs/USE.md, \"When to rename\", says what to do" (substring reply 3)))
-            (rls--number reply "ok")
-            (when (nth 2 told) (rls--apply (nth 2 told)))
-            (when (= rls--version 1) (rls--begin-again))))))))
+  "Renames if that is due."
+  (when (rls--rename-due-p)
+    (let* ((told (rls--ask-all "r")) (reply (car told)))
+      (if (string-prefix-p "no " reply) (rls--rename-refused (substring reply 3))
+        (rls--number reply "ok")
+        (when (nth 2 told) (rls--apply (nth 2 told)))
+        (when (= rls--version 1) (rls--begin-again))))))
 
 (defun rls--send ()
   "Stores, and then writes the messages.
@@ -340,7 +343,7 @@ Emacs keeps the hook, and calls it only once somebody has looked at it."
 
 (dolist (function '(rls--before-command rls--changing rls--changed rls--flush rls--save rls--close)) (put function 'permanent-local-hook t))
 (dolist (variable '(rls-mode rls-undo-mode rls--parts rls--later-parts rls--waits-until rls--cut rls--replaced rls--edition rls--fault rls--waiting-end rls--typing rls--heard rls--begun rls--opening rls--folder rls--name rls--unsaved rls--since rls--due rls--timer rls--steps rls--boundary
-                             rls--typed rls--told rls--behind rls--process rls--version rls--telling rls--given rls--waiting rls--failed
+                             rls--typed rls--told rls--spent rls--own rls--put rls--limits-told rls--behind rls--process rls--version rls--telling rls--given rls--waiting rls--failed
                              rls--shared rls--head rls--group rls--members rls--me rls--seen rls--taken rls--sent rls--last rls--marks
                              rls--looked rls--away rls--changes rls--problems rls--shown rls--place rls--places rls--lookup-due
                              rls--overlays rls--labels rls--twice rls--ahead rls--stopped rls--where rls--last-writer))

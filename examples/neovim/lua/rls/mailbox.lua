@@ -1,6 +1,6 @@
 -- What a replica does in the shared folder. One file for each sender and receiver: a message has all that its receiver isn't known to have, so
 -- the latest is enough. And one for each member's cursor.
-local files = require('rls.files')
+local files, limits = require('rls.files'), require('rls.limits')
 local api = vim.api
 local MOST_MESSAGE, MOST_CURSOR = 67108864, 65536 -- bytes
 
@@ -121,12 +121,21 @@ function M:is_written(to, message)
   return false
 end
 
+function M:tell_limits(messages)
+  self.limits = self.limits or {}
+  limits.tell_once(self.limits, 'file', limits.of_file(self.folder))
+  for to, message in pairs(messages) do
+    limits.tell_once(self.limits, to, limits.of_member(to, #message, self:path(to, self.me)))
+  end
+end
+
 -- Writes messages to members, as far as they are new, and says before that this replica writes.
 function M:write(messages)
   local due = {}
   for to, message in pairs(messages) do
     if message ~= self.sent[to] and not self:is_enough(to, message) then due[to], self.last[to] = message, message end
   end
+  self:tell_limits(due)
   if not next(due) or next(self.ahead) or not self:has_shared() or not self:may_write() then return end
   for to, message in pairs(due) do
     if self:is_written(to, message) then due[to] = nil end

@@ -1,6 +1,6 @@
 -- A replica in a buffer: what is typed goes to the session as it is typed, and what others changed is put in place in the buffer.
 local Session, Lines, Mailbox, Changes = require('rls.session'), require('rls.lines'), require('rls.mailbox'), require('rls.changes')
-local Tokens, files, compared = require('rls.tokens'), require('rls.files'), require('rls.compare')
+local Tokens, Renaming, files, compared = require('rls.tokens'), require('rls.renaming'), require('rls.files'), require('rls.compare')
 local uv, api = vim.loop, vim.api
 local MOST_INPUT = 67108864 -- bytes that a session reads before it stores
 
@@ -28,7 +28,7 @@ end
 -- `place` is what `rls where` says of a text of a circle; nil for a replica that was begun by hand.
 function Replica.open(options, namespace, folder, shared, place)
   local self = setmetatable({ options = options, namespace = namespace, folder = folder, shared = shared, place = place, names = {}, ahead = {}, taken = {}, sent = {}, last = {}, marks = {}, looked = 0,
-    seen = {}, problems = {}, places = {}, steps = 0, changes = options.rename_at, unsaved = false, waits_until = 0, edition = 0 }, Replica)
+    seen = {}, problems = {}, places = {}, steps = 0, changes = options.rename_at, renaming = Renaming.new(), unsaved = false, waits_until = 0, edition = 0 }, Replica)
   files.look_for(folder)
   keep_apart(folder, shared)
   if vim.fn.isdirectory(shared) == 0 then
@@ -51,6 +51,7 @@ end
 
 function Replica:start(is_opening)
   self.session = Session.start(self.options.program, self.folder, is_opening)
+  self.session.note = function(...) self.renaming:note(...) end
   self.session.before = function() self:flush() end
   local newest = 2
   for version = 3, 4 do
@@ -257,25 +258,28 @@ function Replica:stat()
   return vim.fn.system({ 'sh', '-c', 'cd "$1" && exec "$2" stat', 'sh', self.folder, self.options.program })
 end
 
--- Renames if there are too many runs of identifiers. The more epochs are kept, because some member hasn't taken the last renames, the longer it
--- waits. It looks only when something has changed since, an eighth of the limit at least.
-function Replica:rename_if_due()
+-- Whether a rename is due. Where the program has no line `o`, or somebody else may have changed what is long, it looks only if an eighth of the
+-- limit has changed since it looked last.
+function Replica:is_rename_due()
   local limit = self.options.rename_at
-  if limit <= 0 or self.changes * 8 < limit then return end
-  self.changes = 0
+  if limit <= 0 then return false end
+  local is_long_ago = self.changes * 8 >= limit
+  if is_long_ago then self.changes = 0 end
+  local told = self.version >= 4 and self.session:ask('o') or 'bad'
+  if told ~= 'bad' then return self.renaming:pays(told, self.members, limit, is_long_ago) end
+  if not is_long_ago then return false end
   local numbers = self:stat()
   local runs, epochs = tonumber(numbers:match('runs (%d+)') or 0), tonumber(numbers:match('epochs (%d+)') or 1)
-  if runs <= limit * math.min(epochs, 8) then return end
+  return runs > limit * math.min(epochs, 8)
+end
+
+function Replica:rename_if_due()
+  if not self:is_rename_due() then return end
   local reply, _, changes = self.session:ask('r')
-  if reply:match('^no ') then
-    if self.is_refusal_told then return end
-    self.is_refusal_told = true
-    vim.notify(('rls: the rename was refused (%s): docs/USE.md, "When to rename", says what to do'):format(reply:sub(4)))
-  else
-    number(reply, 'ok')
-    if changes then self:apply(changes) end
-    if self.version == 1 then self:begin_again() end
-  end
+  if reply:match('^no ') then return self.renaming:refused(reply:sub(4)) end
+  number(reply, 'ok')
+  if changes then self:apply(changes) end
+  if self.version == 1 then self:begin_again() end
 end
 
 -- Stores, and then writes the messages: what isn't stored may be sent to nobody, since a crash would give its numbers to other edits. With the

@@ -46,6 +46,7 @@ function Session:send(request, data, handler)
   self.waiting[self.last] = { kind = request:sub(1, 1), handler = handler }
   if not self.input:is_closing() then self.input:write(sent) end
   self.given = self.given + #sent
+  if self.note then self.note(request:sub(1, 1), #request) end
 end
 
 -- The end of the line that begins at this byte of what came; nil if it hasn't come whole.

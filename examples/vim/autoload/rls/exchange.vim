@@ -77,27 +77,19 @@ function s:begin_again(r) abort
   call rls#session#number(rls#session#ask(a:r, 'k ' . at)[0], 'cursor')
 endfunction
 
-" Renames if there are too many runs of identifiers. The more epochs are kept, because some member hasn't taken the last renames, the longer it
-" waits. It looks only when something has changed since, an eighth of the limit at least.
+" Renames if that is due.
 function s:rename_if_due(r) abort
-  if g:rls_rename_at <= 0 || a:r.changes * 8 < g:rls_rename_at
-    return
-  endif
-  let a:r.changes = 0
-  let numbers = rls#session#stat(a:r)
-  if str2nr(matchstr(numbers, 'runs \zs\d\+')) <= g:rls_rename_at * min([str2nr(matchstr(numbers, 'epochs \zs\d\+')), 8])
+  if !rls#renaming#is_due(a:r)
     return
   endif
   let [reply, _, changes] = rls#session#ask(a:r, 'r')
-  if reply !~# '^no '
-    call rls#session#number(reply, 'ok')
-    call rls#buffer#apply(a:r, changes)
-    if a:r.version == 1
-      call s:begin_again(a:r)
-    endif
-  elseif !a:r.is_refusal_told
-    let a:r.is_refusal_told = 1
-    echomsg 'rls: the rename was refused (' . reply[3:] . '): docs/USE.md, "When to rename", says what to do'
+  if reply =~# '^no '
+    return rls#renaming#refused(a:r, reply[3:])
+  endif
+  call rls#session#number(reply, 'ok')
+  call rls#buffer#apply(a:r, changes)
+  if a:r.version == 1
+    call s:begin_again(a:r)
   endif
 endfunction
 

@@ -179,6 +179,7 @@ endfunction
 function rls#mailbox#write(r, messages) abort
   let due = filter(copy(a:messages), {to, message -> message !=# get(a:r.sent, to, 0z) && !s:is_enough(a:r, to, message)})
   call extend(a:r.last, due)
+  call rls#limits#tell(a:r, due, {to -> s:path(a:r, to, a:r.me)})
   if empty(due) || !empty(a:r.ahead) || !s:has_shared(a:r) || !rls#tokens#may(a:r)
     return
   endif

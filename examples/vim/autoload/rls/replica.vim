@@ -37,7 +37,7 @@ endfunction
 function rls#replica#new(place) abort
   let r = {'place': a:place, 'folder': a:place.folder, 'shared': a:place.shared, 'wrote': [], 'taken': {}, 'sent': {}, 'seen': {}, 'problems': {}, 'failed': '',
         \ 'fault': '', 'is_opening': 1, 'told': [], 'silent': 0, 'edition': 0, 'is_cut': 0, 'boundary': 0, 'steps': 0, 'behind': 0,
-        \ 'unsaved': 0, 'since': 0, 'waits_until': 0, 'due': -1, 'changes': g:rls_rename_at, 'is_refusal_told': 0, 'shown': -1,
+        \ 'unsaved': 0, 'since': 0, 'waits_until': 0, 'due': -1, 'changes': g:rls_rename_at, 'put': 0, 'spent': 0, 'own': [], 'limits': {}, 'is_refusal_told': 0, 'shown': -1,
         \ 'cursor': '', 'places': {}, 'is_lookup_due': 0, 'last': {}, 'marks': {}, 'looked': 0, 'is_away': 0, 'twice': {}, 'is_stopped': 0,
         \ 'ahead': {}, 'labels': {}}
   call rls#replica#look_for(r.folder)

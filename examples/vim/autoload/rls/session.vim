@@ -45,6 +45,7 @@ function rls#session#put(r, request, data, Handler) abort
     call ch_sendraw(a:r.job, a:data)
   endif
   let a:r.given += len(a:request) + 1 + len(a:data)
+  call rls#renaming#note(a:r, kind, len(a:request))
 endfunction
 
 " Sends a request and waits for its reply: the first line, the bytes after it, and the lines of changes.
