@@ -235,13 +235,14 @@ explain_words() {
   say "\`rls help$part\` explains the words."
 }
 
-# Says what makes the stored file shorter, which has this many bytes now.
+# Says what makes the stored file shorter, which has this many bytes now. As long as somebody lacks the last rename, the next one makes nothing shorter,
+# and what that member writes longer; it is due all the same before its operation could become too large, which has less than the file.
 advise_on() {
   local name value most=${RLS_RENAME_AT:-500} total=0 runs=0 unstable=0 epochs=1
   while read -r name value; do
     case $name in total | runs | unstable | epochs) local "$name=$value" ;; esac
   done < <("$program" stat 2>/dev/null)
-  if [ "$runs" -gt $((most * (epochs < 8 ? epochs : 8))) ]; then
+  if [ "$runs" -gt "$most" ] && { [ "$epochs" = 1 ] || [ "$1" -ge 4194304 ]; }; then
     say "the stored file has $1 bytes for $total characters in $runs runs: \`echo r | rls edit\` makes it shorter (docs/USE.md, \"When to rename\")."
   elif [ "$1" -gt $((32 * total)) ]; then
     say "the stored file has $1 bytes for $total characters, since $unstable operations stay until every member is known to have them: exchange messages (docs/USE.md, \"Numbers that nobody uses\")."

@@ -97,19 +97,19 @@ d 0 9|Delete in parts, or rename before: echo r | rls edit. Nothing was stored
 i 0 x|Rename before: echo r | rls edit. Nothing was stored
 END
 
-# --- A file that has just grown: a rename is advised after `edit` where runs are many, of as many epochs as count; else an exchange.
-sized 200000 60000
+# --- A file that has just grown: a rename is advised after `edit` where runs are many and all have the last rename, or the file is large; else an exchange.
 rm -f slots/replica.told
-while read -r command runs epochs wanted; do
-  printf '#!/bin/sh\n[ "$1" != stat ] || { printf "total 1000\\nruns %s\\nunstable 9\\nepochs %s\\n"; exit; }\ncat >/dev/null\n' "$runs" "$epochs" >program
-  expect "grown, $command, with $runs runs in $epochs epochs" "$wanted" "$(cd slots && RLS_PROGRAM=$room/program "$command" i 2>&1 |
-    sed -n 's/.*200000 bytes.*`echo r .*/rename/p; s/.*200000 bytes.*9 operations stay.*/exchange/p')"
+while read -r command size old runs epochs wanted; do
+  sized "$size" "$old"
+  printf '#!/bin/sh\n[ "$1" != stat ] || { printf "total 1000\nruns %s\nunstable 9\nepochs %s\n"; exit; }\ncat >/dev/null\n' "$runs" "$epochs" >program
+  expect "grown to $size bytes, $command, with $runs runs in $epochs epochs" "$wanted" "$(cd slots && RLS_PROGRAM=$room/program "$command" i 2>&1 |
+    sed -n "s/.*$size bytes.*\`echo r .*/rename/p; s/.*$size bytes.*9 operations stay.*/exchange/p")"
 done <<'END'
-edits 501 1 rename
-edits 500 1 exchange
-edits 1001 2 rename
-edits 1000 2 exchange
-edits 4001 9 rename
-edits 4000 9 exchange
-takes 4001 9
+edits 200000 60000 501 1 rename
+edits 200000 60000 500 1 exchange
+edits 200000 60000 9999 2 exchange
+edits 4194304 4194303 501 2 rename
+edits 4194303 2000000 501 2 exchange
+edits 4194304 4194303 500 9 exchange
+takes 200000 60000 4001 1
 END
