@@ -1,8 +1,9 @@
 //! The choice between a session and a command.
 //! Why: CHOICES.md, 182.
 
-ghost use Rattle.std.specs.Prelude.{◌≡◌, None, map, string_bytes, IfOk, IsErr, IsFalse};
+ghost use Rattle.std.specs.Prelude.{◌≡◌, None, map, string_bytes, IfOk, IsErr, IsFalse, IsTrue};
 ghost use Rattle.rls_io.specs.Device.{LoadsWith};
+ghost use Rattle.rls_session.specs.AsTold.{SessionPerforms, faults};
 ghost use Rattle.rls_session.specs.Words.{begins_session};
 ghost use Rattle.rls_top.specs.Answered.{Performs};
 ghost use Rattle.rls_top.specs.Due.{due};
@@ -32,6 +33,9 @@ pub(crate) fn perform<K: Keeper, S: Source, W: Sink, E: Sink>(
     ensures ends { ProgramEnds K.file K.faults (LoadsWith K.load_gives) K.store_gives S.left S.faults W.told W.faults (map string_bytes words.now) result keeper.old keeper.new input.old input.new output.old output.new }
     // A command stores and writes what is called for by the file that the load found and by the bytes that the reads gave.
     ensures performs { IsFalse (begins_session (map string_bytes words.now)) → Performs K.load_gives K.store_gives S.read_gives W.write_gives (due (map string_bytes words.now)) result keeper.old keeper.new input.old input.new output.old output.new }
+    // So does a session, store by store and reply by reply: it ends as over devices that tell these.
+    ensures serves { IsTrue (begins_session (map string_bytes words.now)) → SessionPerforms K.load_gives K.store_gives S.read_gives W.write_gives result keeper.old keeper.new input.old input.new output.old output.new
+        (faults K.faults S.faults W.faults keeper.old input.old output.old) (faults K.faults S.faults W.faults keeper.new input.new output.new) }
 {
     if begins_session(words) {
         return serve(alloc, keeper, input, output, errors);
@@ -52,6 +56,8 @@ pub(crate) fn perform_in_folder<A: Keeper, B: Keeper, S: Source, W: Sink, E: Sin
 ) -> u8
     ensures ends { ProgramEnds (λ _. None) (faults_of A.faults B.faults) (LoadsWith (LoadGives A.load_gives B.load_gives A.faults B.faults)) (StoreGives A.store_gives B.store_gives A.faults B.faults) S.left S.faults W.told W.faults (map string_bytes words.now) result keeper.old keeper.new input.old input.new output.old output.new }
     ensures performs { IsFalse (begins_session (map string_bytes words.now)) → Performs (LoadGives A.load_gives B.load_gives A.faults B.faults) (StoreGives A.store_gives B.store_gives A.faults B.faults) S.read_gives W.write_gives (due (map string_bytes words.now)) result keeper.old keeper.new input.old input.new output.old output.new }
+    ensures serves { IsTrue (begins_session (map string_bytes words.now)) → SessionPerforms (LoadGives A.load_gives B.load_gives A.faults B.faults) (StoreGives A.store_gives B.store_gives A.faults B.faults) S.read_gives W.write_gives result keeper.old keeper.new input.old input.new output.old output.new
+        (faults (faults_of A.faults B.faults) S.faults W.faults keeper.old input.old output.old) (faults (faults_of A.faults B.faults) S.faults W.faults keeper.new input.new output.new) }
     ensures keeper { CountsWith result (faults_of A.faults B.faults keeper.old) (faults_of A.faults B.faults keeper.new) }
 {
     perform(alloc, words, keeper, input, output, errors)
@@ -69,6 +75,8 @@ pub(crate) fn perform_given<A: Keeper, B: Keeper, S: Source, W: Sink, E: Sink>(
     ensures none { IsErr words → (result ≡ 10) × (keeper.new ≡ keeper.old) × (input.new ≡ input.old) × (output.new ≡ output.old) × (errors.new ≡ errors.old) }
     ensures ends { IfOk words (λ ws. ProgramEnds (λ _. None) (faults_of A.faults B.faults) (LoadsWith (LoadGives A.load_gives B.load_gives A.faults B.faults)) (StoreGives A.store_gives B.store_gives A.faults B.faults) S.left S.faults W.told W.faults (map string_bytes ws.items) result keeper.old keeper.new input.old input.new output.old output.new) }
     ensures performs { IfOk words (λ ws. IsFalse (begins_session (map string_bytes ws.items)) → Performs (LoadGives A.load_gives B.load_gives A.faults B.faults) (StoreGives A.store_gives B.store_gives A.faults B.faults) S.read_gives W.write_gives (due (map string_bytes ws.items)) result keeper.old keeper.new input.old input.new output.old output.new) }
+    ensures serves { IfOk words (λ ws. IsTrue (begins_session (map string_bytes ws.items)) → SessionPerforms (LoadGives A.load_gives B.load_gives A.faults B.faults) (StoreGives A.store_gives B.store_gives A.faults B.faults) S.read_gives W.write_gives result keeper.old keeper.new input.old input.new output.old output.new
+        (faults (faults_of A.faults B.faults) S.faults W.faults keeper.old input.old output.old) (faults (faults_of A.faults B.faults) S.faults W.faults keeper.new input.new output.new)) }
     ensures keeper { CountsWith result (faults_of A.faults B.faults keeper.old) (faults_of A.faults B.faults keeper.new) }
 {
     match words {

@@ -2,8 +2,10 @@ pub mod Courses
 pub mod Cuts
 pub mod Positions
 pub mod Reading
+pub mod AsTold
 pub mod Limits
 pub mod Found
+pub mod Taking
 pub mod Loop
 pub mod ChangeLines
 pub mod Numbered
@@ -11,12 +13,16 @@ pub mod Whole
 pub mod Resumed
 pub mod Writable
 pub mod Sent
+pub mod Exchanging
 pub mod Answered
 mod Told
 pub mod Served
 pub mod Stages
+pub mod Storing
+pub mod Reaching
 pub mod Called
 pub mod Closing
+pub mod Performed
 pub mod Entries
 mod Counts
 pub mod Sizes

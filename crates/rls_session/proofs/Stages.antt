@@ -135,21 +135,20 @@ module _ {K : Type 0} (store : K → List ℕ → Bool → K → Type 0) (ds : O
 
 -- by the calls of a store
 saved_left : {K : Type 0} (store : K → List ℕ → Bool → K → Type 0) (ds : Option (List Due)) (saves : Result Seen CommandError) (r : Result (Unit {0}) Failure) (k l : K) (file new_file : Option (Option (List ℕ))) (mid new : Option (List ℕ))
-    → HasSaved store (IsFileOf saves) r k l → Saves r saves file new_file mid new → IfErr r (λ f. f ≢ Fault Sink → Keeps new_file file) → (l ≡ k → new_file ≡ file) → ((bytes : List ℕ) → IsFileOf saves bytes → AreDue ds (bytes ∷ []))
+    → HasSaved store (IsFileOf saves) r k l → Saves r saves file new_file mid new → IfErr r (λ f. f ≢ Fault Sink → Keeps new_file file) → IfErr r (λ f. f ≢ Fault Sink → l ≡ k → new_file ≡ file) → ((bytes : List ℕ) → IsFileOf saves bytes → AreDue ds (bytes ∷ []))
     → ((bytes : List ℕ) → IsFileOf saves bytes → OnOk r (IfSome ds (λ ds. AreAllFilesOf ds (bytes ∷ [])))) → HasLeft store ds r k l file new_file
-saved_left {K} store ds saves r k l file new_file mid new called saves_so keeps same due all = go r called saves_so keeps all
+saved_left {K} store ds saves r k l file new_file mid new called saves_so keeps same due all = go r called saves_so keeps same all
   where
-    go : (r : Result (Unit {0}) Failure) → HasSaved store (IsFileOf saves) r k l → Saves r saves file new_file mid new → IfErr r (λ f. f ≢ Fault Sink → Keeps new_file file)
+    go : (r : Result (Unit {0}) Failure) → HasSaved store (IsFileOf saves) r k l → Saves r saves file new_file mid new → IfErr r (λ f. f ≢ Fault Sink → Keeps new_file file) → IfErr r (λ f. f ≢ Fault Sink → l ≡ k → new_file ≡ file)
         → ((bytes : List ℕ) → IsFileOf saves bytes → OnOk r (IfSome ds (λ ds. AreAllFilesOf ds (bytes ∷ [])))) → HasLeft store ds r k l file new_file
-    go (Ok u) c w s a = one_left store ds file new_file (Ok u) c.0 k l c.2 refl (due c.0 c.1) (a c.0 c.1) (stores_bytes saves c.0 file new_file c.1 w.0)
-    go (Err NoCommand) c w s a = (none_left store ds file new_file NoCommand k l (λ e. cc) c (same c)).0
-    go (Err (Command e)) c w s a = (none_left store ds file new_file (Command e) k l (λ e. cc) c (same c)).0
-    go (Err (Fault Keeper)) c w s a = failed_left store ds file new_file (Fault Keeper) c.0 k l c.2 (c.0, refl) (due c.0 c.1) (s (λ e. cc))
-    go (Err (Fault Source)) c w s a = (none_left store ds file new_file (Fault Source) k l (λ e. cc) c (same c)).0
-    go (Err (Fault Sink)) (inl c) w s a = (none_left store ds file new_file (Fault Sink) k l (λ e. cc) c (same c)).0
-    go (Err (Fault Sink)) (inr c) w s a = one_left store ds file new_file (Err (Fault Sink)) c.0 k l c.2 refl (due c.0 c.1) tt (stores_bytes saves c.0 file new_file c.1 w.0)
-    go (Err (Fault Memory)) (inl c) w s a = (none_left store ds file new_file (Fault Memory) k l (λ e. cc) c (same c)).0
-    go (Err (Fault Memory)) (inr c) w s a = failed_left store ds file new_file (Fault Memory) c.0 k l c.2 tt (due c.0 c.1) (s (λ e. cc))
+    go (Ok u) c w s t a = one_left store ds file new_file (Ok u) c.0 k l c.2 refl (due c.0 c.1) (a c.0 c.1) (stores_bytes saves c.0 file new_file c.1 w.0)
+    go (Err NoCommand) c w s t a = (none_left store ds file new_file NoCommand k l (λ e. cc) c (t (λ e. cc) c)).0
+    go (Err (Command e)) c w s t a = (none_left store ds file new_file (Command e) k l (λ e. cc) c (t (λ e. cc) c)).0
+    go (Err (Fault Keeper)) c w s t a = failed_left store ds file new_file (Fault Keeper) c.0 k l c.2 (c.0, refl) (due c.0 c.1) (s (λ e. cc))
+    go (Err (Fault Source)) c w s t a = (none_left store ds file new_file (Fault Source) k l (λ e. cc) c (t (λ e. cc) c)).0
+    go (Err (Fault Sink)) c w s t a = one_left store ds file new_file (Err (Fault Sink)) c.0 k l c.2 refl (due c.0 c.1) tt (stores_bytes saves c.0 file new_file c.1 w.0)
+    go (Err (Fault Memory)) (inl c) w s t a = (none_left store ds file new_file (Fault Memory) k l (λ e. cc) c (t (λ e. cc) c)).0
+    go (Err (Fault Memory)) (inr c) w s t a = failed_left store ds file new_file (Fault Memory) c.0 k l c.2 tt (due c.0 c.1) (s (λ e. cc))
 
 -- how near, by the first course
 near_first : (d : Sitting Seen) (come left : Option (List ℕ)) → IfSome come (λ given. IsNear given left (here d given).used) → IfSome come (λ given. IsNear given left (used_in (session_by by_parts d given)))

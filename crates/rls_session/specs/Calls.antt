@@ -60,7 +60,7 @@ HasSaved gives IsDue (Err NoCommand) old new = new ≡ old
 HasSaved gives IsDue (Err (Command e)) old new = new ≡ old
 HasSaved gives IsDue (Err (Fault Keeper)) old new = StoresOnce gives IsDue false old new
 HasSaved gives IsDue (Err (Fault Source)) old new = new ≡ old
-HasSaved gives IsDue (Err (Fault Sink)) old new = (new ≡ old) ⊎ StoresOnce gives IsDue true old new
+HasSaved gives IsDue (Err (Fault Sink)) old new = StoresOnce gives IsDue true old new
 HasSaved gives IsDue (Err (Fault Memory)) old new = (new ≡ old) ⊎ StoresOnce gives IsDue false old new
 
 -- ---- of several stores

@@ -22,4 +22,5 @@ pub mod Due
 pub mod Endings
 pub mod Calls
 pub mod Serving
+pub mod AsTold
 pub mod Words

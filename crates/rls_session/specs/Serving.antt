@@ -28,7 +28,7 @@ pub record SaveEnds {K : Type 0} (store : K → List ℕ → Bool → K → Type
   pub calls : HasSaved store (IsFileOf (saved s)) r keeper_old keeper_new
   -- the file is as before if it couldn't be stored, where the keeper still tells it, and if the keeper wasn't called
   pub stays : IfErr r (λ f. f ≢ Fault Sink → Keeps new_file file)
-  pub same : keeper_new ≡ keeper_old → new_file ≡ file
+  pub same : IfErr r (λ f. f ≢ Fault Sink → keeper_new ≡ keeper_old → new_file ≡ file)
   pub inner : r ≢ Err (Fault Source)
   pub keeper : r ≡ Err (Fault Keeper) → Rose faults new_faults
   pub uncounted : r ≢ Err (Fault Keeper) → new_faults ≡ faults

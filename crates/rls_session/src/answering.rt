@@ -1,13 +1,14 @@
 //! The requests of an input, answered one after another.
 
-ghost use Rattle.std.specs.Prelude.{◌≡◌, ◌+◌, ◌≤◌, ◌<◌, IsTrue, IsFalse, length, take, Some, None, Ok, Err, IfOk, OnOk, OnErr, IfErr, IfSome};
+ghost use Rattle.std.specs.Prelude.{◌≡◌, is_ok, ◌+◌, ◌≤◌, ◌<◌, ℕ, IsTrue, IsFalse, length, take, Some, None, Ok, Err, IfOk, OnOk, OnErr, IfErr, IfSome};
 ghost use Rattle.std.specs.List.{position_or_len};
 ghost use Rattle.rls_ident.specs.declared.limits.TheConstants.{INPUT_BYTES};
-ghost use Rattle.rls_io.specs.Device.{Rose, Appends, IsCutShort};
+ghost use Rattle.rls_io.specs.Device.{Rose, Appends, IsCutShort, Passes, PassesAndFails};
 ghost use Rattle.rls_io.specs.declared.reading.ReadError.TheVariants as read;
 ghost use Rattle.rls_script.specs.Scripts.{is_line_feed};
 ghost use Rattle.rls_stages.specs.Endings.{IsPart};
 ghost use Rattle.rls_session.specs.Answering.{is_store, of_answer, of_read, HasNoLine, IsDone, IsNear, IsNext, IsPaused, IsPrompt, IsReplied, IsUnused, LacksPart};
+ghost use Rattle.rls_session.specs.AsTold.{AllAnswered, Exchanged, Given, OrderAnswered, OrderTaken};
 ghost use Rattle.rls_session.specs.Courses.{course, courses, holds, replies_in};
 ghost use Rattle.rls_session.specs.Drafts.{no_draft};
 ghost use Rattle.rls_session.specs.Intake.{known_come, taken, to_come, KnowsEnd, KeepsEnd};
@@ -92,6 +93,7 @@ fn next_order<S: Source>(
     ensures few { length intake.old.waiting ≤ 4096 → OnOk result (length intake.new.waiting ≤ 4096) }
     ensures near { length intake.old.waiting ≤ 4096 → IfSome (to_come intake.old (S.left input.old)) (λ bytes. IsNear bytes (S.left input.new) (position_or_len is_line_feed bytes)) }
     ensures never_falls { S.faults input.old ≤ S.faults input.new }
+    ensures given { Given S.read_gives intake.old.ended (is_ok result) intake.new.ended input.old input.new (OrderTaken result intake.old intake.new) }
 {
     match intake.find_line(input) {
         Err(error) => Err(error),
@@ -137,6 +139,7 @@ fn reply_to<S: Source>(
     ensures few { length intake.old.waiting ≤ 4096 → OnOk result (length intake.new.waiting ≤ 4096) }
     ensures near { length intake.old.waiting ≤ 4096 → IfSome (to_come intake.old (S.left input.old)) (λ bytes. IsNear bytes (S.left input.new) (cut_after order bytes).size) }
     ensures never_falls { S.faults input.old ≤ S.faults input.new }
+    ensures given { Given S.read_gives intake.old.ended (is_ok result) intake.new.ended input.old input.new (OrderAnswered (respond by_parts (seat_of desk.old draft.old)) order (seat_of desk.new draft.new) result intake.old intake.new) }
 {
     match order {
         Order::Take { len } => reply_to_message(alloc, desk, draft, intake, input, len),
@@ -171,6 +174,7 @@ fn reply_to_message<S: Source>(
     ensures few { length intake.old.waiting ≤ 4096 → OnOk result (length intake.new.waiting ≤ 4096) }
     ensures near { length intake.old.waiting ≤ 4096 → IfSome (to_come intake.old (S.left input.old)) (λ bytes. IsNear bytes (S.left input.new) (cut_after (Order.Take len) bytes).size) }
     ensures never_falls { S.faults input.old ≤ S.faults input.new }
+    ensures given { Given S.read_gives intake.old.ended (is_ok result) intake.new.ended input.old input.new (OrderAnswered (respond by_parts (seat_of desk.old draft.old)) (Order.Take len) (seat_of desk.new draft.new) result intake.old intake.new) }
 {
     match intake.find_bytes(len, input) {
         Err(error) => Err(error),
@@ -199,6 +203,8 @@ pub(crate) fn write<W: Sink>(output: &mut W, reply: &[u8]) -> Result<(), AnswerE
     ensures error { IfErr result (λ e. e ≡ AnswerError.SinkFault) }
     ensures never_falls { W.faults output.old ≤ W.faults output.new }
     ensures fault { OnErr result (Rose (W.faults output.old) (W.faults output.new)) }
+    ensures gives { OnOk result (Passes W.write_gives reply.now output.old output.new) }
+    ensures gives_part { OnErr result ((n : ℕ) × (n < length reply.now) × PassesAndFails W.write_gives (take n reply.now) output.old output.new) }
 {
     match write_all_of(output, reply) {
         Ok(()) => Ok(()),
@@ -236,6 +242,10 @@ pub(crate) fn answer_all<S: Source, W: Sink>(
     ensures never_falls { W.faults output.old ≤ W.faults output.new }
     ensures writable { AreWritable desk.old.state → OnOk result (AreWritable desk.new.state) }
     ensures sent { AreWritable desk.old.state → OnOk result (IfSome (known_come intake.old (S.left input.old)) (λ given. holds (respond by_parts) SendsFrom (seated desk.old) given)) }
+
+    // Also of devices that tell nothing: all of this holds of the bytes that the reads gave, with any rest after them, and of those that the writes took.
+    ensures as_told { Exchanged S.read_gives W.write_gives intake.old.ended (is_ok result) intake.new.ended input.old input.new output.old output.new
+        (AllAnswered (seated desk.old) (seat_of desk.new draft.new) result intake.old intake.new (AreWritable desk.old.state)) }
 {
     loop {
         match next_order(alloc, intake, input) {

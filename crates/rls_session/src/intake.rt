@@ -1,11 +1,12 @@
 //! What was taken of the input and isn't used yet.
 
-ghost use Rattle.std.specs.Prelude.{◌≡◌, ◌+◌, ◌<◌, ◌≤◌, length, drop, [], true, false, Ok, Err, IfOk, OnErr, IsTrue, IsFalse};
+ghost use Rattle.std.specs.Prelude.{◌≡◌, is_ok, ◌+◌, ◌<◌, ◌≤◌, length, drop, [], true, false, Ok, Err, IfOk, OnErr, IsTrue, IsFalse};
 ghost use Rattle.std.specs.List.{position_or_len};
 ghost use Rattle.rls_ident.specs.declared.limits.TheConstants.{INPUT_BYTES};
 ghost use Rattle.rls_io.specs.Device.{Rose, Keeps};
 ghost use Rattle.rls_io.specs.declared.reading.ReadError.TheVariants as read;
 ghost use Rattle.rls_script.specs.Scripts.{is_line_feed};
+ghost use Rattle.rls_session.specs.AsTold.{Given, Took};
 ghost use Rattle.rls_session.specs.Intake.{taken, to_come, TellsEnd, KeepsEnd, Grows};
 
 use rls_ident::limits::INPUT_BYTES;
@@ -110,6 +111,7 @@ impl Intake {
         ensures too_large { result ≡ Err read.TooLarge → taken self.old ≡ INPUT_BYTES + 1 }
         ensures fault { result ≡ Err read.Fault → Rose (S.faults source.old) (S.faults source.new) }
         ensures never_falls { S.faults source.old ≤ S.faults source.new }
+        ensures given { Given S.read_gives self.old.ended (is_ok result) self.new.ended source.old source.new (Took self.old self.new) }
     {
         if self.ended {
             return Ok(false);
@@ -146,6 +148,7 @@ impl Intake {
         ensures too_large { result ≡ Err read.TooLarge → (taken self.new ≡ INPUT_BYTES + 1) × (position_or_len is_line_feed self.new.waiting ≡ length self.new.waiting) }
         ensures fault { result ≡ Err read.Fault → Rose (S.faults source.old) (S.faults source.new) }
         ensures never_falls { S.faults source.old ≤ S.faults source.new }
+        ensures given { Given S.read_gives self.old.ended (is_ok result) self.new.ended source.old source.new (Took self.old self.new) }
     {
         rely!(let _ = &self.bytes);
         let mut clear = 0;
@@ -185,6 +188,7 @@ impl Intake {
         ensures too_large { result ≡ Err read.TooLarge → (taken self.new ≡ INPUT_BYTES + 1) × (length self.new.waiting < n) }
         ensures fault { result ≡ Err read.Fault → Rose (S.faults source.old) (S.faults source.new) }
         ensures never_falls { S.faults source.old ≤ S.faults source.new }
+        ensures given { Given S.read_gives self.old.ended (is_ok result) self.new.ended source.old source.new (Took self.old self.new) }
     {
         rely!(let _ = &self.bytes);
         while (self.waiting().len() as u64) < n {

@@ -1,12 +1,13 @@
 //! A session over the kept file.
 //! Why: docs/DECISIONS.md, 129.
 
-ghost use Rattle.std.specs.Prelude.{◌≡◌, ◌≤◌, ℕ, List, length, false, Some, Ok, IfSome, OnOk};
+ghost use Rattle.std.specs.Prelude.{◌≡◌, is_ok, ◌≤◌, ℕ, Bool, List, length, false, Some, Ok, IfSome, OnOk};
 ghost use Rattle.rls_io.specs.Device.{LoadsWith, Rose};
 ghost use Rattle.rls_codec.specs.CodecLaws.{IsBytes};
 ghost use Rattle.rls_model.specs.Receiving.{State};
 ghost use Rattle.rls_stages.specs.Endings.{Writes};
 ghost use Rattle.rls_stages.specs.KeptFile.{IsFileFor};
+ghost use Rattle.rls_session.specs.AsTold.{Exchanged, HasTold, SessionPerforms, StageAs, StretchAs, faults};
 ghost use Rattle.rls_session.specs.Devices.{devices};
 ghost use Rattle.rls_session.specs.Due.{due, line_at};
 ghost use Rattle.rls_session.specs.Endings.{IsStatusOf, Serves, line_of};
@@ -69,6 +70,10 @@ pub fn serve<K: Keeper, S: Source, W: Sink, E: Sink>(
     // The same for every file, whether or not it is that of a history, and which calls are made, of which devices, and which of them fail.
     ensures ends { SessionEnds (LoadsWith K.load_gives) K.store_gives ((input.new ≡ input.old) × (output.new ≡ output.old)) result keeper.old keeper.new
         (devices K.file K.faults S.left S.faults W.told W.faults keeper.old input.old output.old) (devices K.file K.faults S.left S.faults W.told W.faults keeper.new input.new output.new) }
+    // Also of devices that tell nothing: it ends so as over devices that tell the file that the load found, the bytes that the reads gave, with any
+    // rest after them, and the bytes that the writes took.
+    ensures performs { SessionPerforms K.load_gives K.store_gives S.read_gives W.write_gives result keeper.old keeper.new input.old input.new output.old output.new
+        (faults K.faults S.faults W.faults keeper.old input.old output.old) (faults K.faults S.faults W.faults keeper.new input.new output.new) }
     // The line that goes with the status is written to `errors`.
     ensures line { IfSome (line_at (due (K.file keeper.old) (S.left input.old)) result) (λ line.
         Writes (Rose (E.faults errors.old) (E.faults errors.new)) (E.told errors.old) (E.told errors.new) line) }
@@ -97,6 +102,8 @@ fn perform<K: Keeper, S: Source, W: Sink>(
 ) -> Result<(), Failure>
     ensures ends { (n : ℕ) → IsStatusOf result n → SessionEnds (LoadsWith K.load_gives) K.store_gives ((input.new ≡ input.old) × (output.new ≡ output.old)) n keeper.old keeper.new
         (devices K.file K.faults S.left S.faults W.told W.faults keeper.old input.old output.old) (devices K.file K.faults S.left S.faults W.told W.faults keeper.new input.new output.new) }
+    ensures performs { (n : ℕ) → IsStatusOf result n → SessionPerforms K.load_gives K.store_gives S.read_gives W.write_gives n keeper.old keeper.new input.old input.new output.old output.new
+        (faults K.faults S.faults W.faults keeper.old input.old output.old) (faults K.faults S.faults W.faults keeper.new input.new output.new) }
     ensures line { (n : ℕ) → IsStatusOf result n → IfSome (line_at (due (K.file keeper.old) (S.left input.old)) n) (λ line. line ≡ line_of result n) }
 {
     match open(alloc, keeper) {
@@ -116,6 +123,8 @@ fn answer_on<K: Keeper, S: Source, W: Sink>(
     requires writable { AreWritable replica }
     ensures ends { StageEnds K.store_gives (sitting_at replica) (S.left input.old) false result keeper.old keeper.new
         (devices K.file K.faults S.left S.faults W.told W.faults keeper.old input.old output.old) (devices K.file K.faults S.left S.faults W.told W.faults keeper.new input.new output.new) }
+    ensures as_told { (ended : Bool) × Exchanged S.read_gives W.write_gives false (is_ok result) ended input.old input.new output.old output.new
+        (StageAs K.store_gives (sitting_at replica) result keeper.old keeper.new (faults K.faults S.faults W.faults keeper.old input.old output.old) (faults K.faults S.faults W.faults keeper.new input.new output.new)) }
 {
     let mut desk = Desk::new(alloc, replica);
     serve_desk(alloc, &mut desk, keeper, input, output)
@@ -132,6 +141,8 @@ fn serve_desk<K: Keeper, S: Source, W: Sink>(
     requires writable { AreWritable desk.old.state }
     ensures ends { StageEnds K.store_gives desk.old (S.left input.old) false result keeper.old keeper.new
         (devices K.file K.faults S.left S.faults W.told W.faults keeper.old input.old output.old) (devices K.file K.faults S.left S.faults W.told W.faults keeper.new input.new output.new) }
+    ensures as_told { (ended : Bool) × Exchanged S.read_gives W.write_gives false (is_ok result) ended input.old input.new output.old output.new
+        (StageAs K.store_gives desk.old result keeper.old keeper.new (faults K.faults S.faults W.faults keeper.old input.old output.old) (faults K.faults S.faults W.faults keeper.new input.new output.new)) }
 {
     let mut intake = Intake::new(alloc);
     for _ in 0..u64::MAX {
@@ -162,6 +173,8 @@ fn serve_stretch<K: Keeper, S: Source, W: Sink>(
     ensures writable { result ≡ Ok Halt.Store → AreWritable desk.new.state }
     ensures fresh { result ≡ Ok Halt.Store → intake.new.used ≡ 0 }
     ensures short { OnOk result (length intake.new.waiting ≤ 4096) }
+    ensures as_told { Exchanged S.read_gives W.write_gives intake.old.ended (is_ok result) intake.new.ended input.old input.new output.old output.new
+        (StretchAs K.store_gives desk.old desk.new intake.old intake.new result keeper.old keeper.new (faults K.faults S.faults W.faults keeper.old input.old output.old) (faults K.faults S.faults W.faults keeper.new input.new output.new)) }
 {
     let mut draft = Draft::none(alloc);
     let halt = match answer_all(alloc, desk, &mut draft, intake, input, output) {
@@ -200,6 +213,7 @@ fn store_and_go_on<K: Keeper, W: Sink>(
     ensures waiting { intake.new.waiting ≡ intake.old.waiting }
     ensures ended { intake.new.ended ≡ intake.old.ended }
     ensures fresh { OnOk result (intake.new.used ≡ 0) }
+    ensures told { HasTold W.write_gives result output.old output.new }
 {
     if let Err(_) = desk.settle() {
         return Err(Failure::of_fault(Fault::Memory));
@@ -224,6 +238,7 @@ fn save<K: Keeper, W: Sink>(
     requires writable { AreWritable replica.now }
     ensures saves { SaveEnds K.store_gives replica.now result keeper.old keeper.new
         (K.file keeper.old) (K.file keeper.new) (K.faults keeper.old) (K.faults keeper.new) (W.told output.old) (W.told output.new) (W.faults output.old) (W.faults output.new) }
+    ensures told { HasTold W.write_gives result output.old output.new }
 {
     match file_of(alloc, replica) {
         Err(error) => Err(Failure::from(error)),

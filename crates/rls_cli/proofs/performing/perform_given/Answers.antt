@@ -10,5 +10,8 @@ returns-in-Ok-clause-ends g c = rw c.in-Ok.is (rw c.deref.ensures.value at c.per
 pub returns-in-Ok-clause-performs : goal.returns-in-Ok-clause-performs
 returns-in-Ok-clause-performs g c = rw c.in-Ok.is (rw c.deref.ensures.value at c.perform_in_folder.ensures.performs)
 
+pub returns-in-Ok-clause-serves : goal.returns-in-Ok-clause-serves
+returns-in-Ok-clause-serves g c = rw c.in-Ok.is (rw c.deref.ensures.value at c.perform_in_folder.ensures.serves)
+
 pub returns-in-Ok-clause-keeper : goal.returns-in-Ok-clause-keeper
 returns-in-Ok-clause-keeper g c = c.perform_in_folder.ensures.keeper

@@ -1,13 +1,18 @@
-use Rattle.std.proofs.Common.{Err, Option, ap, arith, subst, sym}
+use Rattle.std.proofs.Common.{◌≡◌, ◌++◌, ℕ, List, take, true, false, Err, Ok, Option, Some, ap, arith, inr, refl, subst, sym}
 use Rattle.rls_io.specs.Device.{IsCutShort}
 use Rattle.rls_session.specs.Seats.{respond, resumed_seat, seat_of, seated}
+use Rattle.rls_session.specs.AsTold.{AllAnswered, Exchanged, OrderAnswered, OrderTaken}
 use Rattle.rls_session.specs.Answering.{IsNext}
 use Rattle.rls_session.specs.Intake.{known_come, to_come}
+use Rattle.rls_session.specs.declared.answering.AnswerError.{AnswerError}
 use Rattle.rls_session.specs.declared.orders.Order.{Order}
+use Rattle.rls_file.specs.Stored.{AreWritable}
 use Rattle.rls_session.specs.Courses.{course}
 use Rattle.rls_session.specs.Sessions.{by_parts}
 use Rattle.rls_session.specs.declared.draft.Draft.{Draft}
+use Rattle.rls_session.proofs.AsTold.{exchanged_given, exchanged_none, exchanged_went}
 use Rattle.rls_session.proofs.Drafting.{none_drafted}
+use Rattle.rls_session.proofs.Exchanging.{Ordered, Replied, Way, begins, order_error, order_over, order_quit, order_store, reply_error, reply_unwritten, reply_written}
 use Rattle.rls_session.proofs.Loop.{OnWay, between_full, between_near, between_part, between_prompt, cut_part, fault_of, not_sink, reply_cut, too_large_of, way_first, way_full, way_near, way_order, way_over, way_part, way_paused, way_prompt, way_quit, way_reply, way_store, written}
 use Rattle.rls_session.proofs.Sent.{AreSent, sent_first, sent_over, sent_quit, sent_reply, sent_store}
 use Rattle.rls_session.proofs.answering.answer_all.Goals as goal
@@ -26,6 +31,8 @@ loop-error-init g c =
       drafted = none_drafted d c.args.draft.now c.requires.none;
       writable = λ w. w;
       sent = λ w. subst (λ (p : Draft). AreSent (seated d) (known_come a left) (seat_of d p) a left) none (sent_first (seated d) a left);
+      as_told = exchanged_none g.S.Source.read_gives g.W.Sink.write_gives a.ended true c.args.input.now c.args.output.now (Way (seated d) a (AreWritable d.state) (seat_of d c.args.draft.now) a)
+          (λ x o. subst (λ (p : Draft). Way (seated d) a (AreWritable d.state) (seat_of d p) a (Some x) (Some x) (Some o) (Some o)) none (begins (seated d) a (AreWritable d.state) (Some x) (Some o) c.requires.fresh));
       input_never_falls = omega arith;
       never_falls = omega arith;
     }
@@ -102,6 +109,14 @@ returns-in-Err-reply_to-clause-cut g c = λ e. absurd (not_sink c.in-Err-reply_t
 
 pub loop-error-preserved : goal.loop-error-preserved
 loop-error-preserved g c =
+    let ordered = exchanged_given g.S.Source.read_gives g.W.Sink.write_gives c.args.intake.now.ended c.loop-error.intake.ended true c.next_order.new.intake.ended c.args.input.now c.loop-error.input c.next_order.new.input c.args.output.now c.loop-error.output (Way (seated c.args.desk.now) c.args.intake.now (AreWritable c.args.desk.now.state) (seat_of c.loop-error.desk c.loop-error.draft) c.loop-error.intake)
+    (OrderTaken (Ok c.in-Ok-Some.field-0) c.loop-error.intake c.next_order.new.intake)
+    (Ordered (seated c.args.desk.now) c.args.intake.now (AreWritable c.args.desk.now.state) (seat_of c.loop-error.desk c.loop-error.draft) c.loop-error.intake c.next_order.new.intake c.in-Ok-Some.field-0)
+    c.loop-error.invariant.as_told c.in-Ok-Some.ensures.given (λ x y z o n w t. record { mid = Some y; before = w; next = t }) in
+    let replied = exchanged_given g.S.Source.read_gives g.W.Sink.write_gives c.args.intake.now.ended c.next_order.new.intake.ended true c.reply_to.new.intake.ended c.args.input.now c.next_order.new.input c.reply_to.new.input c.args.output.now c.loop-error.output (Ordered (seated c.args.desk.now) c.args.intake.now (AreWritable c.args.desk.now.state) (seat_of c.loop-error.desk c.loop-error.draft) c.loop-error.intake c.next_order.new.intake c.in-Ok-Some.field-0)
+    (OrderAnswered (respond by_parts (seat_of c.loop-error.desk c.loop-error.draft)) c.in-Ok-Some.order (seat_of c.reply_to.new.desk c.reply_to.new.draft) (Ok c.in-Ok.reply) c.next_order.new.intake c.reply_to.new.intake)
+    (Replied (seated c.args.desk.now) c.args.intake.now (AreWritable c.args.desk.now.state) (seat_of c.loop-error.desk c.loop-error.draft) (seat_of c.reply_to.new.desk c.reply_to.new.draft) c.loop-error.intake c.next_order.new.intake c.reply_to.new.intake c.in-Ok-Some.field-0 c.in-Ok-Some.order c.in-Ok.reply)
+    ordered c.in-Ok.ensures.given (λ x y z o n w t. record { mid = Some y; before = w; given = t }) in
     let between = way_order _ _ _ _ _ _ _ _ _ _ _ _ c.loop-error.invariant.way c.in-Ok-Some.field-0-is c.in-Ok-Some.ensures.next c.in-Ok-Some.ensures.known c.in-Ok-Some.ensures.stays_ended in
     record {
       ended = λ e. c.in-Ok.ensures.stays_ended (c.in-Ok-Some.ensures.stays_ended (c.loop-error.invariant.ended e));
@@ -112,6 +127,10 @@ loop-error-preserved g c =
       writable = λ w. c.in-Ok.ensures.writable (c.loop-error.invariant.writable w);
       sent = λ w. sent_reply (seated c.args.desk.now) (seat_of c.loop-error.desk c.loop-error.draft) (known_come c.args.intake.now (g.S.Source.left c.args.input.now)) c.loop-error.intake c.next_order.new.intake (g.S.Source.left c.loop-error.input) (g.S.Source.left c.next_order.new.input) (g.W.Sink.told c.args.output.now) (g.W.Sink.told c.loop-error.output) c.loop-error.invariant.way (c.loop-error.invariant.sent w) (seat_of c.reply_to.new.desk c.reply_to.new.draft) _ c.in-Ok-Some.order c.in-Ok.reply.items c.reply_to.new.intake (g.S.Source.left c.reply_to.new.input) c.in-Ok-Some.field-0-is c.in-Ok-Some.ensures.next
           c.in-Ok-Some.ensures.known (λ q. c.in_default.not-Quit q, λ q. c.in_default.not-Store q) c.in-Ok.ensures.reply (c.in-Ok.ensures.sent (c.loop-error.invariant.writable w));
+      as_told = exchanged_went g.S.Source.read_gives g.W.Sink.write_gives _ true _ _ _ _ _ _ _ c.deref.result.now _ _ replied refl (c.in-Ok-write.ensures.gives)
+          (λ x y o m n e w. reply_written (seated c.args.desk.now) c.args.intake.now (AreWritable c.args.desk.now.state) c.in-Ok-Some.field-0 c.in-Ok-Some.order c.in-Ok-Some.field-0-is (seat_of c.loop-error.desk c.loop-error.draft) c.loop-error.intake c.next_order.new.intake c.in-Ok-Some.ensures.stays_ended
+              (λ q. c.in_default.not-Quit q, λ q. c.in_default.not-Store q) (seat_of c.reply_to.new.desk c.reply_to.new.draft) c.reply_to.new.intake c.in-Ok.ensures.stays_ended (c.in-Ok-Some.ensures.few c.loop-error.invariant.short) c.in-Ok.reply (Some x) (Some y) (Some o) (Some m) (Some n)
+              (λ w. c.in-Ok.ensures.sent (c.loop-error.invariant.writable w)) (subst (λ (l : List ℕ). Some n ≡ Some (m ++ l)) c.deref.ensures.value (ap (λ (l : List ℕ). Some l) e)) w);
       input_never_falls = omega arith;
       never_falls = omega arith;
     }
@@ -140,3 +159,56 @@ pub returns-in-Ok-None-clause-done : goal.returns-in-Ok-None-clause-done
 returns-in-Ok-None-clause-done g c =
     way_over (respond by_parts) (seated c.args.desk.now) (seat_of c.loop-error.desk c.loop-error.draft) (known_come c.args.intake.now (g.S.Source.left c.args.input.now)) c.loop-error.intake c.next_order.new.intake (g.S.Source.left c.loop-error.input) (g.S.Source.left c.next_order.new.input) (g.W.Sink.told c.args.output.now) (g.W.Sink.told c.loop-error.output) c.loop-error.invariant.way
     (λ k. subst (λ (o : Option Order). IsNext (to_come c.loop-error.intake (g.S.Source.left c.loop-error.input)) o c.loop-error.intake c.next_order.new.intake (g.S.Source.left c.next_order.new.input)) c.in-Ok-None.field-0-is (c.in-Ok-None.ensures.next k))
+
+pub returns-in-Err-clause-as_told : goal.returns-in-Err-clause-as_told
+returns-in-Err-clause-as_told g c =
+    exchanged_given g.S.Source.read_gives g.W.Sink.write_gives _ _ false _ _ _ _ _ _ _ _ _ c.loop-error.invariant.as_told c.in-Err.ensures.given
+    (λ x y z o n w t. order_error (seated c.args.desk.now) c.args.intake.now (AreWritable c.args.desk.now.state) c.in-Err.error c.from.result (seat_of c.loop-error.desk c.loop-error.draft) c.loop-error.intake c.next_order.new.intake (Some x) (Some y) (Some z) (Some o) (Some n) c.from.ensures
+        (λ e. let full = c.in-Err.ensures.too_large (ap Err e) in (full.1, full.2)) (λ e. let unread = c.in-Err.ensures.unread (ap Err e) in (unread.1, unread.2)) c.in-Err.ensures.stays_ended c.loop-error.invariant.short w t)
+
+pub returns-in-Ok-None-clause-as_told : goal.returns-in-Ok-None-clause-as_told
+returns-in-Ok-None-clause-as_told g c =
+    exchanged_given g.S.Source.read_gives g.W.Sink.write_gives _ _ true _ _ _ _ _ _ _ _ _ c.loop-error.invariant.as_told c.in-Ok-None.ensures.given
+    (λ x y z o n w t. order_over (seated c.args.desk.now) c.args.intake.now (AreWritable c.args.desk.now.state) c.in-Ok-None.field-0 (seat_of c.loop-error.desk c.loop-error.draft) c.loop-error.intake c.next_order.new.intake (Some x) (Some y) (Some z) (Some o) (Some n) c.in-Ok-None.field-0-is c.loop-error.invariant.short w t)
+
+pub returns-in-Quit-clause-as_told : goal.returns-in-Quit-clause-as_told
+returns-in-Quit-clause-as_told g c =
+    exchanged_given g.S.Source.read_gives g.W.Sink.write_gives _ _ true _ _ _ _ _ _ _ _ _ c.loop-error.invariant.as_told c.in-Ok-Some.ensures.given
+    (λ x y z o n w t. order_quit (seated c.args.desk.now) c.args.intake.now (AreWritable c.args.desk.now.state) c.in-Ok-Some.field-0 c.in-Ok-Some.order c.in-Ok-Some.field-0-is (seat_of c.loop-error.desk c.loop-error.draft) c.loop-error.intake c.next_order.new.intake c.in-Ok-Some.ensures.stays_ended
+        (Some x) (Some y) (Some z) (Some o) (Some n) c.in-Quit.is c.loop-error.invariant.short w t)
+
+pub returns-in-Store-clause-as_told : goal.returns-in-Store-clause-as_told
+returns-in-Store-clause-as_told g c =
+    exchanged_given g.S.Source.read_gives g.W.Sink.write_gives _ _ true _ _ _ _ _ _ _ _ _ c.loop-error.invariant.as_told c.in-Ok-Some.ensures.given
+    (λ x y z o n w t. order_store (seated c.args.desk.now) c.args.intake.now (AreWritable c.args.desk.now.state) c.in-Ok-Some.field-0 c.in-Ok-Some.order c.in-Ok-Some.field-0-is (seat_of c.loop-error.desk c.loop-error.draft) c.loop-error.intake c.next_order.new.intake c.in-Ok-Some.ensures.stays_ended
+        (Some x) (Some y) (Some z) (Some o) (Some n) c.in-Store.is c.loop-error.invariant.short w t)
+
+pub returns-in-Err-reply_to-clause-as_told : goal.returns-in-Err-reply_to-clause-as_told
+returns-in-Err-reply_to-clause-as_told g c =
+    let ordered = exchanged_given g.S.Source.read_gives g.W.Sink.write_gives c.args.intake.now.ended c.loop-error.intake.ended true c.next_order.new.intake.ended c.args.input.now c.loop-error.input c.next_order.new.input c.args.output.now c.loop-error.output (Way (seated c.args.desk.now) c.args.intake.now (AreWritable c.args.desk.now.state) (seat_of c.loop-error.desk c.loop-error.draft) c.loop-error.intake)
+    (OrderTaken (Ok c.in-Ok-Some.field-0) c.loop-error.intake c.next_order.new.intake)
+    (Ordered (seated c.args.desk.now) c.args.intake.now (AreWritable c.args.desk.now.state) (seat_of c.loop-error.desk c.loop-error.draft) c.loop-error.intake c.next_order.new.intake c.in-Ok-Some.field-0)
+    c.loop-error.invariant.as_told c.in-Ok-Some.ensures.given (λ x y z o n w t. record { mid = Some y; before = w; next = t }) in
+    exchanged_given g.S.Source.read_gives g.W.Sink.write_gives _ _ false _ _ _ _ _ _ _ _ _ ordered c.in-Err-reply_to.ensures.given
+    (λ x y z o n w t. reply_error (seated c.args.desk.now) c.args.intake.now (AreWritable c.args.desk.now.state) c.in-Ok-Some.field-0 c.in-Ok-Some.order c.in-Ok-Some.field-0-is (seat_of c.loop-error.desk c.loop-error.draft) c.loop-error.intake c.next_order.new.intake c.in-Ok-Some.ensures.stays_ended
+        (λ q. c.in_default.not-Quit q, λ q. c.in_default.not-Store q) (seat_of c.reply_to.new.desk c.reply_to.new.draft) c.reply_to.new.intake c.in-Err-reply_to.ensures.stays_ended (c.in-Ok-Some.ensures.few c.loop-error.invariant.short)
+        c.in-Err-reply_to.error c.from-in-Err-reply_to.result (Some x) (Some y) (Some z) (Some o) (Some n) c.from-in-Err-reply_to.ensures
+        (λ e. let full = c.in-Err-reply_to.ensures.too_large (ap Err e) in (full.1, full.2)) (λ e. let unread = c.in-Err-reply_to.ensures.unread (ap Err e) in (unread.1, unread.2)) w t)
+
+pub returns-in-Err-write-clause-as_told : goal.returns-in-Err-write-clause-as_told
+returns-in-Err-write-clause-as_told g c =
+    let ordered = exchanged_given g.S.Source.read_gives g.W.Sink.write_gives c.args.intake.now.ended c.loop-error.intake.ended true c.next_order.new.intake.ended c.args.input.now c.loop-error.input c.next_order.new.input c.args.output.now c.loop-error.output (Way (seated c.args.desk.now) c.args.intake.now (AreWritable c.args.desk.now.state) (seat_of c.loop-error.desk c.loop-error.draft) c.loop-error.intake)
+    (OrderTaken (Ok c.in-Ok-Some.field-0) c.loop-error.intake c.next_order.new.intake)
+    (Ordered (seated c.args.desk.now) c.args.intake.now (AreWritable c.args.desk.now.state) (seat_of c.loop-error.desk c.loop-error.draft) c.loop-error.intake c.next_order.new.intake c.in-Ok-Some.field-0)
+    c.loop-error.invariant.as_told c.in-Ok-Some.ensures.given (λ x y z o n w t. record { mid = Some y; before = w; next = t }) in
+    let replied = exchanged_given g.S.Source.read_gives g.W.Sink.write_gives c.args.intake.now.ended c.next_order.new.intake.ended true c.reply_to.new.intake.ended c.args.input.now c.next_order.new.input c.reply_to.new.input c.args.output.now c.loop-error.output (Ordered (seated c.args.desk.now) c.args.intake.now (AreWritable c.args.desk.now.state) (seat_of c.loop-error.desk c.loop-error.draft) c.loop-error.intake c.next_order.new.intake c.in-Ok-Some.field-0)
+    (OrderAnswered (respond by_parts (seat_of c.loop-error.desk c.loop-error.draft)) c.in-Ok-Some.order (seat_of c.reply_to.new.desk c.reply_to.new.draft) (Ok c.in-Ok.reply) c.next_order.new.intake c.reply_to.new.intake)
+    (Replied (seated c.args.desk.now) c.args.intake.now (AreWritable c.args.desk.now.state) (seat_of c.loop-error.desk c.loop-error.draft) (seat_of c.reply_to.new.desk c.reply_to.new.draft) c.loop-error.intake c.next_order.new.intake c.reply_to.new.intake c.in-Ok-Some.field-0 c.in-Ok-Some.order c.in-Ok.reply)
+    ordered c.in-Ok.ensures.given (λ x y z o n w t. record { mid = Some y; before = w; given = t }) in
+    let part = c.in-Err-write.ensures.gives_part in
+    let bytes = c.deref.result.now in
+    subst (λ (f : AnswerError). Exchanged g.S.Source.read_gives g.W.Sink.write_gives c.args.intake.now.ended false c.reply_to.new.intake.ended c.args.input.now c.reply_to.new.input c.args.output.now c.write.new.output (AllAnswered (seated c.args.desk.now) (seat_of c.reply_to.new.desk c.reply_to.new.draft) (Err f) c.args.intake.now c.reply_to.new.intake (AreWritable c.args.desk.now.state))) (sym c.in-Err-write.ensures.error)
+    (exchanged_went g.S.Source.read_gives g.W.Sink.write_gives _ false _ _ _ _ _ _ _ (take part.0 bytes) _ _ replied refl (inr part.2)
+        (λ x y o m n e w. reply_unwritten (seated c.args.desk.now) c.args.intake.now (AreWritable c.args.desk.now.state) c.in-Ok-Some.field-0 c.in-Ok-Some.order c.in-Ok-Some.field-0-is (seat_of c.loop-error.desk c.loop-error.draft) c.loop-error.intake c.next_order.new.intake c.in-Ok-Some.ensures.stays_ended
+            (λ q. c.in_default.not-Quit q, λ q. c.in_default.not-Store q) (seat_of c.reply_to.new.desk c.reply_to.new.draft) c.reply_to.new.intake c.in-Ok.ensures.stays_ended (c.in-Ok-Some.ensures.few c.loop-error.invariant.short) c.in-Ok.reply (Some x) (Some y) (Some o) (Some m) (Some n)
+            (subst (IsCutShort (Some m) (Some n)) c.deref.ensures.value (part.0, part.1, ap (λ (l : List ℕ). Some l) e)) w))

@@ -10,4 +10,4 @@ serve_desk-requires g c = record {
 }
 
 pub returns : goal.returns
-returns g c = record { ends = rw c.new-desk.ensures.sitting at c.serve_desk.ensures.ends }
+returns g c = record { ends = rw c.new-desk.ensures.sitting at c.serve_desk.ensures.ends; as_told = rw c.new-desk.ensures.sitting at c.serve_desk.ensures.as_told }

@@ -1,10 +1,12 @@
 use Rattle.std.proofs.Common.{◌≡◌, Err, ap, refl, subst, sym, IfSome, List, ℕ}
 use Rattle.rls_io.specs.Device.{LoadsWith}
 use Rattle.rls_report.specs.declared.failures.Failure.{Failure}
+use Rattle.rls_session.specs.AsTold.{faults}
 use Rattle.rls_session.specs.Devices.{devices}
 use Rattle.rls_session.specs.Due.{due}
 use Rattle.rls_session.specs.Endings.{Leaves, line_of}
 use Rattle.rls_session.proofs.Served.{line_so, open_leaves, opened_leaves}
+use Rattle.rls_session.proofs.Performed.{opened_performs, unopened_performs}
 use Rattle.rls_session.proofs.Closing.{opened_ends, unopened_ends}
 use Rattle.rls_session.proofs.serving.perform.Goals as goal
 
@@ -49,3 +51,13 @@ returns-in-Ok-clause-line g c = λ n s.
     let out = g.W.Sink.told c.answer_on.new.output in
     line_so (λ (line : List ℕ). line ≡ line_of c.answer_on.result n) (due file left) c.answer_on.result n file new old_out out s
     (opened_leaves c.answer_on.result c.in-Ok.replica file (g.K.Keeper.file c.«open».new.keeper) new left old_out out c.in-Ok.ensures.opened c.in-Ok.ensures.kept c.answer_on.ensures.ends.leaves) refl
+
+pub returns-in-Err-clause-performs : goal.returns-in-Err-clause-performs
+returns-in-Err-clause-performs g c = λ n s.
+    unopened_performs g.K.Keeper.load_gives g.K.Keeper.store_gives g.S.Source.read_gives g.W.Sink.write_gives n c.args.keeper.now c.in-Err.error c.from.result c.«open».new.keeper c.args.input.now c.args.output.now (faults g.K.Keeper.faults g.S.Source.faults g.W.Sink.faults c.args.keeper.now c.args.input.now c.args.output.now) (faults g.K.Keeper.faults g.S.Source.faults g.W.Sink.faults c.«open».new.keeper c.args.input.now c.args.output.now) c.from.ensures s c.in-Err.ensures.found c.in-Err.ensures.errors
+    (λ e. c.in-Err.ensures.keeper (ap Err e)) (λ other. c.in-Err.ensures.uncounted (λ e. other cc))
+
+pub returns-in-Ok-clause-performs : goal.returns-in-Ok-clause-performs
+returns-in-Ok-clause-performs g c = λ n s.
+    opened_performs g.K.Keeper.load_gives g.K.Keeper.store_gives g.S.Source.read_gives g.W.Sink.write_gives n c.args.keeper.now c.answer_on.result c.in-Ok.replica c.«open».new.keeper c.answer_on.new.keeper c.args.input.now c.answer_on.new.input c.args.output.now c.answer_on.new.output (faults g.K.Keeper.faults g.S.Source.faults g.W.Sink.faults c.args.keeper.now c.args.input.now c.args.output.now) (faults g.K.Keeper.faults g.S.Source.faults g.W.Sink.faults c.«open».new.keeper c.args.input.now c.args.output.now) (faults g.K.Keeper.faults g.S.Source.faults g.W.Sink.faults c.answer_on.new.keeper c.answer_on.new.input c.answer_on.new.output) s c.in-Ok.ensures.found
+    (c.in-Ok.ensures.uncounted (λ e. cc)) refl refl c.answer_on.ensures.as_told

@@ -19,3 +19,6 @@ returns-clause-line g c =
     line_written (line_at (due (g.K.Keeper.file c.args.keeper.now) (g.S.Source.left c.args.input.now)) c.tell.result) (line_of c.perform-ending.result c.tell.result)
     (Writes (Rose (g.E.Sink.faults c.args.errors.now) (g.E.Sink.faults c.tell.new.errors)) (g.E.Sink.told c.args.errors.now) (g.E.Sink.told c.tell.new.errors))
     (c.perform-ending.ensures.line c.tell.result c.tell.ensures.status) c.tell.ensures.line
+
+pub returns-clause-performs : goal.returns-clause-performs
+returns-clause-performs g c = c.perform-ending.ensures.performs c.tell.result c.tell.ensures.status

@@ -1,4 +1,4 @@
-use Rattle.std.proofs.Common.{◌≡◌, ◌∙◌, ◌+◌, ℕ, List, length, sym, ap, arith, subst, Ok, Err, refl, length-append}
+use Rattle.std.proofs.Common.{◌≡◌, ◌∙◌, ◌+◌, ℕ, List, length, sym, ap, arith, subst, true, false, Ok, Err, refl, rules, length-append}
 use Rattle.std.specs.List.{position_or_len}
 use Rattle.rls_io.specs.declared.reading.ReadError.TheVariants as read
 use Rattle.rls_script.specs.Scripts.{is_line_feed}
@@ -7,6 +7,7 @@ use Rattle.rls_stages.proofs.Kept.{keeps_on}
 use Rattle.rls_session.specs.Intake.{IntakeSeen}
 use Rattle.rls_session.proofs.Positions.{looked_on, looked_at, none_found}
 use Rattle.rls_session.proofs.Reading.{end_kept_on}
+use Rattle.rls_session.proofs.Taking.{taken_none, taken_on}
 use Rattle.rls_session.proofs.intake.Intake.find_line.Goals as goal
 
 pub overflow_add-clear : goal.overflow_add-clear
@@ -43,6 +44,7 @@ loop-clear-preserved g c =
       known = end_kept_on c.args.self.now c.loop-clear.self c.take_more.new.self (g.S.Source.left c.args.source.now) (g.S.Source.left c.loop-clear.source) (g.S.Source.left c.take_more.new.source) c.loop-clear.invariant.same c.loop-clear.invariant.known c.in-Ok-true.ensures.known;
       stays_ended = λ e. c.in-Ok-true.ensures.stays_ended (c.loop-clear.invariant.stays_ended e);
       ahead = λ few. let step = c.in-Ok-true.ensures.step in omega (arith, none.0);
+      given = taken_on g.S.Source.read_gives true c.args.self.now c.loop-clear.self c.take_more.new.self c.args.source.now c.loop-clear.source c.take_more.new.source c.loop-clear.invariant.given c.in-Ok-true.ensures.given;
       never_falls = omega arith;
     }
 
@@ -73,3 +75,23 @@ returns-in-Ok-false-clause-ahead g c =
     let same = (c.in-Ok-false.ensures.end (ap Ok c.in-Ok-false.field-0-test)).0 in
     let all : position_or_len is_line_feed c.take_more.new.self.waiting ≡ length c.take_more.new.self.waiting = subst (λ (w : List ℕ). position_or_len is_line_feed w ≡ length w) (sym same) none.1 in
     λ few. omega arith
+
+pub loop-clear-init : goal.loop-clear-init
+loop-clear-init g c = record {
+  in_range = search rules;
+  clear = search rules;
+  same = search rules;
+  used = search rules;
+  few = search rules;
+  known = search rules;
+  stays_ended = λ e. e;
+  ahead = search rules;
+  given = taken_none g.S.Source.read_gives true c.args.self.now c.args.self.now c.args.source.now refl;
+  never_falls = search rules;
+}
+
+pub returns-in-Err-clause-given : goal.returns-in-Err-clause-given
+returns-in-Err-clause-given g c = taken_on g.S.Source.read_gives false c.args.self.now c.loop-clear.self c.take_more.new.self c.args.source.now c.loop-clear.source c.take_more.new.source c.loop-clear.invariant.given c.in-Err.ensures.given
+
+pub returns-in-Ok-false-clause-given : goal.returns-in-Ok-false-clause-given
+returns-in-Ok-false-clause-given g c = taken_on g.S.Source.read_gives true c.args.self.now c.loop-clear.self c.take_more.new.self c.args.source.now c.loop-clear.source c.take_more.new.source c.loop-clear.invariant.given c.in-Ok-false.ensures.given

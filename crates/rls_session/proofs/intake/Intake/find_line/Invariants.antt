@@ -1,8 +1,9 @@
-use Rattle.std.proofs.Common.{◌≡◌, ◌+◌, ◌≤◌, ◌-◌, length, take, IsTrue}
+use Rattle.std.proofs.Common.{◌≡◌, ◌+◌, ◌≤◌, ◌-◌, length, take, true, IsTrue}
 use Rattle.std.specs.List.{position_or_len}
 use Rattle.rls_ident.specs.declared.limits.TheConstants.{INPUT_BYTES}
 use Rattle.rls_io.specs.Device.{Keeps}
 use Rattle.rls_script.specs.Scripts.{is_line_feed}
+use Rattle.rls_session.specs.AsTold.{Given, Took}
 use Rattle.rls_session.specs.Intake.{taken, to_come, KeepsEnd}
 use Rattle.rls_session.proofs.intake.Intake.find_line.Given as goal
 
@@ -17,6 +18,7 @@ invariant-loop-clear g l = record {
   known : KeepsEnd l.fn.self (g.S.Source.left l.fn.source) l.self (g.S.Source.left l.source);
   stays_ended : IsTrue l.fn.self.ended → IsTrue l.self.ended;
   ahead : length l.fn.self.waiting ≤ 4096 → length l.self.waiting ≤ l.clear + 4096;
+  given : Given g.S.Source.read_gives l.fn.self.ended true l.self.ended l.fn.source l.source (Took l.fn.self l.self);
   never_falls : g.S.Source.faults l.fn.source ≤ g.S.Source.faults l.source;
 }
 
