@@ -1,5 +1,5 @@
 -- How a session ends as over devices that tell, from how its stages do.
-use Rattle.std.proofs.Common.{◌≡◌, ◌∙◌, ◌≤◌, ◌⊎◌, ℕ, Bool, false, List, [], ◌++◌, Option, Some, None, IfSome, Result, Ok, Err, refl, sym, ap, subst, inl, inr}
+use Rattle.std.proofs.Common.{◌≡◌, ◌∙◌, ◌≤◌, ◌⊎◌, ℕ, Bool, true, false, List, [], ◌++◌, Option, Some, None, IfSome, OnOk, Result, Ok, Err, refl, sym, ap, subst, inl, inr}
 use Rattle.std.specs.Prelude.{is_ok, ◌≢◌}
 use Rattle.rls_io.specs.Device.{HasFound, Keeps, Passes, PassesAndFails, Rose}
 use Rattle.rls_io.specs.declared.devices.Found.{Found}
@@ -14,11 +14,12 @@ use Rattle.rls_stages.specs.declared.errors.OpenError.TheVariants as opening
 use Rattle.rls_stages.specs.Calls.{FindsUnlessFailed, HasLoaded}
 use Rattle.rls_stages.specs.Errors.{Gives, GivesError, IsOpenError, of_open}
 use Rattle.rls_stages.specs.KeptFile.{loaded, replica_in}
-use Rattle.rls_session.specs.AsTold.{AtEnd, Exchanged, Faults, IsFound, LoadsAs, OnFile, Open, SessionPerforms, StageAs, telling}
+use Rattle.rls_session.specs.AsTold.{AtEnd, Exchanged, Failed, Faults, Fits, IsFound, LoadsAs, OnFile, Open, SessionPerforms, StageAs, Went, reading_of, telling}
 use Rattle.rls_session.specs.Answers.{sitting_at}
 use Rattle.rls_session.specs.Endings.{IsStatusOf}
 use Rattle.rls_session.proofs.AsTold.{went_any}
 use Rattle.rls_session.proofs.Closing.{opened_ends, unopened_ends}
+use Rattle.rls_session.proofs.Served.{done_so}
 
 module _ {K S W : Type 0} (load : K → Result Found LoadError → K → Type 0) (store : K → List ℕ → Bool → K → Type 0) (read : S → Option (List ℕ) → S → Type 0) (write : W → Option (List ℕ) → W → Type 0) (n : ℕ) (k : K) where
   -- the file was used
@@ -29,24 +30,34 @@ module _ {K S W : Type 0} (load : K → Result Found LoadError → K → Type 0)
       let e = h.1 in
       record {
         file = Some kept;
-        found = tt;
+        found = (mid, found.1);
         bytes = e.bytes;
         how = e.how;
         came = e.came;
         written = e.written;
         went = went_any write (is_ok r) e.written p q e.went;
+        done = done_so r n ((e.how ≢ Failed) × Passes write e.written p q) is (all_passed r e.fits e.went);
         ends = λ rest at.
             let stage = e.holds (e.bytes ++ rest) rest refl at [] e.written refl (Some kept) in
             (stage.0, opened_ends (LoadsAs load (Some kept)) store ((j ≡ i) × (q ≡ p)) n k l (telling (Some kept) (Some (e.bytes ++ rest)) (Some []) f) (telling stage.0 (Some rest) (Some e.written) g) r s mid (telling (Some kept) (Some (e.bytes ++ rest)) (Some []) m)
             is found.2 found.1 refl refl refl keeper input output stage.1);
       }
+    where
+      open_or_end : (ended : Bool) → reading_of ended ≡ Failed → ⊥
+      open_or_end true e = let never : AtEnd ≡ Failed = e in cc
+      open_or_end false e = let never : Open ≡ Failed = e in cc
+
+      -- no call of a session that is done failed
+      all_passed : (r : Result (Unit {0}) Failure) → Fits (is_ok r) h.0 (h.1).how → Went write (is_ok r) (h.1).written p q → OnOk r (((h.1).how ≢ Failed) × Passes write (h.1).written p q)
+      all_passed (Ok u) fits went = (λ failed. open_or_end h.0 (sym fits ∙ failed), went)
+      all_passed (Err e) fits went = tt
 
   -- it can't be
   pub unopened_performs : (e : OpenError) (failure : Failure) (l : K) (i : S) (p : W) (f g : Faults) → failure ≡ of_open e → IsStatusOf (Err failure) n → FindsUnlessFailed {X = Seen} load (λ kept. GivesError (of_open e) (replica_in (loaded kept))) (Err e) k l
       → IsOpenError e → (e ≡ opening.KeeperFault → Rose f.keeper g.keeper) → (e ≢ opening.KeeperFault → g.keeper ≡ f.keeper) → SessionPerforms load store read write n k l i i p p f g
   unopened_performs e failure l i p f g is s found errors keeper uncounted = go e found refl
     where
-      ends : (file : Option (Option (List ℕ))) → IsFound load file k l → IfSome file (λ kept. GivesError (of_open e) (replica_in (loaded kept))) → HasLoaded {X = Seen} (LoadsAs load file) (Err e) k l → SessionPerforms load store read write n k l i i p p f g
+      ends : (file : Option (Option (List ℕ))) → IsFound load file ((i ≡ i) × (p ≡ p)) k l → IfSome file (λ kept. GivesError (of_open e) (replica_in (loaded kept))) → HasLoaded {X = Seen} (LoadsAs load file) (Err e) k l → SessionPerforms load store read write n k l i i p p f g
       ends file is_found opened calls = record {
         file = file;
         found = is_found;
@@ -55,6 +66,7 @@ module _ {K S W : Type 0} (load : K → Result Found LoadError → K → Type 0)
         came = passes_none read i;
         written = [];
         went = inl (passes_none write p);
+        done = λ z. (λ failed. let never : Open ≡ Failed = failed in cc, passes_none write p);
         ends = λ rest at. (
           file,
           unopened_ends (LoadsAs load file) store ((i ≡ i) × (p ≡ p)) n k l (telling file (Some rest) (Some []) f) (telling file (Some rest) (Some []) g) e failure is s opened (keeps file) errors keeper uncounted calls (refl, refl) refl refl,
@@ -66,11 +78,11 @@ module _ {K S W : Type 0} (load : K → Result Found LoadError → K → Type 0)
           keeps (Some kept) = refl
 
       found_one : (kept : Option (List ℕ)) → HasFound load FILE_BYTES kept k l → GivesError (of_open e) (replica_in (loaded kept)) → HasLoaded {X = Seen} (LoadsAs load (Some kept)) (Err e) k l → SessionPerforms load store read write n k l i i p p f g
-      found_one kept has gives calls = ends (Some kept) tt gives calls
+      found_one kept has gives calls = ends (Some kept) (l, has) gives calls
 
       go : (x : OpenError) → FindsUnlessFailed {X = Seen} load (λ kept. GivesError (of_open e) (replica_in (loaded kept))) (Err x) k l → e ≡ x → SessionPerforms load store read write n k l i i p p f g
       go (opening.Command c) h same = found_one h.0 h.1 h.2 (subst (λ (y : OpenError). HasLoaded {X = Seen} (LoadsAs load (Some h.0)) (Err y) k l) (sym same) h.1)
-      go opening.KeeperFault h same = ends None (inr (load_error.Failed, h)) tt (subst (λ (y : OpenError). HasLoaded {X = Seen} (LoadsAs load None) (Err y) k l) (sym same) (load_error.Failed, h))
-      go opening.OutOfMemory (inl h) same = ends None (inl h) tt (subst (λ (y : OpenError). HasLoaded {X = Seen} (LoadsAs load None) (Err y) k l) (sym same) (inl h))
+      go opening.KeeperFault h same = ends None ((refl, refl), inr (load_error.Failed, h)) tt (subst (λ (y : OpenError). HasLoaded {X = Seen} (LoadsAs load None) (Err y) k l) (sym same) (load_error.Failed, h))
+      go opening.OutOfMemory (inl h) same = ends None ((refl, refl), inl h) tt (subst (λ (y : OpenError). HasLoaded {X = Seen} (LoadsAs load None) (Err y) k l) (sym same) (inl h))
       go opening.OutOfMemory (inr (inl h)) same = found_one h.0 h.1 (subst (λ (y : OpenError). GivesError (of_open y) (replica_in (loaded h.0))) (sym same) tt) (subst (λ (y : OpenError). HasLoaded {X = Seen} (LoadsAs load (Some h.0)) (Err y) k l) (sym same) (inr (inl h.1)))
-      go opening.OutOfMemory (inr (inr h)) same = ends None (inr (load_error.OutOfMemory, h)) tt (subst (λ (y : OpenError). HasLoaded {X = Seen} (LoadsAs load None) (Err y) k l) (sym same) (inr (inr (load_error.OutOfMemory, h))))
+      go opening.OutOfMemory (inr (inr h)) same = ends None ((refl, refl), inr (load_error.OutOfMemory, h)) tt (subst (λ (y : OpenError). HasLoaded {X = Seen} (LoadsAs load None) (Err y) k l) (sym same) (inr (inr (load_error.OutOfMemory, h))))

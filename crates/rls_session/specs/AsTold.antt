@@ -147,26 +147,28 @@ StageAs store d r keeper_old keeper_new f g x y o n = OnFile (λ file new_file. 
 
 -- ---- of a session
 
--- a load that answers Ok found this file, if it is known
+-- a load that answers Ok found this file; none does so without one
 abbrev pub LoadsAs : {K : Type 0} → (K → Result Found LoadError → K → Type 0) → Option (Option (List ℕ)) → K → Bool → K → Type 0
-LoadsAs load None old true new = (found : Found) × load old (Ok found) new
+LoadsAs load None old true new = ⊥
 LoadsAs load (Some kept) old true new = HasFound load FILE_BYTES kept old new
 LoadsAs load file old false new = (cause : LoadError) × load old (Err cause) new
 
--- the file that a session is about is known, unless the keeper wasn't called or failed to load
-abbrev pub IsFound : {K : Type 0} → (K → Result Found LoadError → K → Type 0) → Option (Option (List ℕ)) → K → K → Type 0
-IsFound load None old new = (new ≡ old) ⊎ ((cause : LoadError) × load old (Err cause) new)
-IsFound load (Some kept) old new = Unit {0}
+-- The load found this file. Without one the keeper wasn't called or failed to load, and no other device was called.
+abbrev pub IsFound : {K : Type 0} → (K → Result Found LoadError → K → Type 0) → Option (Option (List ℕ)) → Type 0 → K → K → Type 0
+IsFound {K} load None untouched old new = untouched × ((new ≡ old) ⊎ ((cause : LoadError) × load old (Err cause) new))
+IsFound {K} load (Some kept) untouched old new = (mid : K) × HasFound load FILE_BYTES kept old mid
 
 -- The load of a session found a file, its reads gave some bytes, and its writes took some. It ended as over devices that tell this file, these
 -- bytes with any rest after them, and what was written: so just what it calls for was stored, store by store, and written, reply by reply.
 pub record SessionPerforms {K S W : Type 0} (load : K → Result Found LoadError → K → Type 0) (store : K → List ℕ → Bool → K → Type 0) (read : S → Option (List ℕ) → S → Type 0) (write : W → Option (List ℕ) → W → Type 0) (n : ℕ) (keeper_old keeper_new : K) (input_old input_new : S) (output_old output_new : W) (f g : Faults) : Type 0 where
   pub file : Option (Option (List ℕ))
-  pub found : IsFound load file keeper_old keeper_new
+  pub found : IsFound load file ((input_new ≡ input_old) × (output_new ≡ output_old)) keeper_old keeper_new
   pub bytes : List ℕ
   pub how : Reading
   pub came : Came read false bytes how input_old input_new
   pub written : List ℕ
   pub went : Passes write written output_old output_new ⊎ PassesAndFails write written output_old output_new
+  -- with the status 0 no call failed
+  pub done : n ≡ 0 → (how ≢ Failed) × Passes write written output_old output_new
   pub ends : (rest : List ℕ) → (how ≡ AtEnd → rest ≡ []) → (new_file : Option (Option (List ℕ)))
       × SessionEnds (LoadsAs load file) store ((input_new ≡ input_old) × (output_new ≡ output_old)) n keeper_old keeper_new (telling file (Some (bytes ++ rest)) (Some []) f) (telling new_file (Some rest) (Some written) g)
