@@ -1,9 +1,8 @@
 -- What was taken of an input, by what its reads gave.
-use Rattle.std.proofs.Common.{◌≡◌, ◌≢◌, ◌∙◌, ◌+◌, ◌<◌, ◌≤◌, ℕ, zero, suc, Bool, true, false, eqb, leb, IsTrue, IsFalse, List, [], ◌∷◌, ◌++◌, length, take, Option, Some, None, IfSome, Result, Ok, Err, refl, sym, ap, subst, arith, append_assoc, append-nil, length-append, length-take}
+use Rattle.std.proofs.Common.{◌≡◌, ◌≢◌, ◌∙◌, ◌+◌, ◌<◌, ◌≤◌, ℕ, zero, suc, Bool, true, false, leb, IsTrue, IsFalse, List, [], ◌∷◌, ◌++◌, length, take, Option, Some, None, IfSome, Result, Ok, Err, refl, sym, ap, subst, arith, append_assoc, append-nil, length-append, length-take}
 use Rattle.std.specs.Prelude.{nat_eq, Vec}
 use Rattle.std.specs.declared.alloc.Global.{Global}
 use Rattle.std.specs.List.{position_or_len}
-use Rattle.std.proofs.lemmas.Bool.{eqb-true}
 use Rattle.std.proofs.lemmas.Bool.Decides.{nat_tests}
 use Rattle.std.proofs.lemmas.Grind.{common_steps}
 use Rattle.rls_ident.specs.declared.limits.TheConstants.{INPUT_BYTES}
@@ -79,11 +78,6 @@ module _ {S : Type 0} (read : S → Option (List ℕ) → S → Type 0) where
   taken_on ok a b c old mid new t u = given_on read a.ended b.ended ok c.ended old mid new (Took a b) (Took b c) (Took a c) t u (λ x y z. took_on a b c x y z)
 
 -- ---- the next line
-
--- bytes that are none
-pub is_none : (bytes : List ℕ) → eqb (length bytes) 0 ≡ true → bytes ≡ []
-is_none [] h = refl
-is_none (b ∷ bytes) h = absurd (let none = eqb-true (length (b ∷ bytes)) 0 h in omega arith)
 
 -- nothing is to come
 over_order : (a b : IntakeSeen) (x y : List ℕ) (n : ℕ) → Took a b (Some x) (Some y) → b.waiting ≡ [] → n ≡ position_or_len is_line_feed b.waiting → b.used ≡ a.used → (n ≡ length b.waiting → IsTrue b.ended) → (n ≡ length b.waiting → taken b ≤ INPUT_BYTES) → IsOver (a.waiting ++ x) a

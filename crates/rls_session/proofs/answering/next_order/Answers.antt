@@ -1,9 +1,11 @@
 use Rattle.std.proofs.Common.{◌≡◌, ◌∙◌, ◌<◌, ℕ, List, [], length, true, false, sym, subst, arith, refl, Some, rules}
+use Rattle.std.proofs.lemmas.Bool.{eqb-true}
+use Rattle.std.proofs.lemmas.List.{nil_from_length}
 use Rattle.rls_io.specs.declared.reading.ReadError.TheVariants as read_error
 use Rattle.rls_script.specs.Scripts.{is_line_feed}
 use Rattle.rls_script.proofs.LineEnds.{is_longer, position_or_len_le}
 use Rattle.rls_session.proofs.Found.{found_order, line_near}
-use Rattle.rls_session.proofs.Taking.{is_none, line_failed, line_order, line_over}
+use Rattle.rls_session.proofs.Taking.{line_failed, line_order, line_over}
 use Rattle.rls_session.proofs.answering.next_order.Goals as goal
 
 pub overflow_add-n : goal.overflow_add-n
@@ -37,7 +39,7 @@ returns-in-Err-order_of-clause-given g c = line_failed g.S.Source.read_gives rea
 
 pub returns-then-is_empty-clause-given : goal.returns-then-is_empty-clause-given
 returns-then-is_empty-clause-given g c =
-    let none : c.find_line.new.self.waiting ≡ [] = subst (λ (l : List ℕ). l ≡ []) c.waiting-waiting.ensures.waiting (is_none c.waiting-waiting.result.now (sym c.is_empty.ensures ∙ c.if-is_empty.true)) in
+    let none : c.find_line.new.self.waiting ≡ [] = subst (λ (l : List ℕ). l ≡ []) c.waiting-waiting.ensures.waiting (nil_from_length c.waiting-waiting.result.now (eqb-true (length c.waiting-waiting.result.now) 0 (sym c.is_empty.ensures ∙ c.if-is_empty.true))) in
     line_over g.S.Source.read_gives c.args.intake.now c.find_line.new.self c.in-Ok.n c.args.input.now c.find_line.new.source c.in-Ok.ensures.given none c.in-Ok.ensures.line c.in-Ok.ensures.used c.in-Ok.ensures.ended c.in-Ok.ensures.few_at_end c.in-Ok.ensures.ahead
 
 pub returns-in-Ok-order_of-clause-given : goal.returns-in-Ok-order_of-clause-given
