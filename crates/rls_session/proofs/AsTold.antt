@@ -1,11 +1,7 @@
 -- Calls one after another, and what holds then as of devices that tell what these passed.
-use Rattle.std.proofs.Common.{◌≡◌, ◌∙◌, ◌<◌, ◌≤◌, ◌⊎◌, ℕ, Bool, true, false, IsTrue, IsFalse, List, [], ◌∷◌, ◌++◌, length, take, drop, Option, Some, None, Result, Ok, Err, refl, sym, ap, subst, inl, inr, arith, append_assoc, append-nil}
-use Rattle.std.specs.Prelude.{nat_eq}
-use Rattle.std.proofs.lemmas.Bool.Decides.{nat_tests}
-use Rattle.std.proofs.lemmas.Grind.{common_steps}
-use Rattle.std.proofs.lemmas.List.{take-append-le, drop-append-le}
-use Rattle.rls_io.specs.Device.{Keeps, Passes, PassesAll, PassesAndFails, PassesPieces, Reads, together}
-use Rattle.rls_io.proofs.Told.{passes_more, passes_none}
+use Rattle.std.proofs.Common.{◌≡◌, ◌∙◌, ◌⊎◌, ℕ, Bool, true, false, IsTrue, List, [], ◌∷◌, ◌++◌, Option, Some, refl, sym, ap, subst, inl, inr, append_assoc, append-nil}
+use Rattle.rls_io.specs.Device.{Passes, PassesAll, PassesAndFails, PassesPieces, together}
+use Rattle.rls_io.proofs.Told.{passes_none}
 use Rattle.rls_session.specs.AsTold.{AtEnd, Came, Exchanged, Failed, Fits, Given, Open, Reading, Went, reading_of}
 
 -- ---- calls of one device

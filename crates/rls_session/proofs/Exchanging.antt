@@ -1,6 +1,6 @@
 -- The loop over requests, as over devices that tell what was read and written.
-use Rattle.std.proofs.Common.{◌≡◌, ◌≢◌, ◌+◌, ◌≤◌, ℕ, Bool, IsTrue, IsFalse, List, ◌++◌, length, take, Option, Some, None, IfSome, Result, Ok, Err, refl, sym, ap, subst}
-use Rattle.std.specs.Prelude.{Vec, ◌<◌}
+use Rattle.std.proofs.Common.{◌≡◌, ◌+◌, ◌≤◌, ℕ, IsTrue, IsFalse, List, length, Option, Some, None, Ok, Err, refl, subst}
+use Rattle.std.specs.Prelude.{Vec}
 use Rattle.std.specs.declared.alloc.Global.{Global}
 use Rattle.rls_ident.specs.declared.limits.TheConstants.{INPUT_BYTES}
 use Rattle.rls_io.specs.Device.{Appends, IsCutShort}
@@ -9,7 +9,6 @@ use Rattle.rls_io.specs.declared.reading.ReadError.TheVariants as read
 use Rattle.rls_seen.specs.Seen.{Seen}
 use Rattle.rls_session.specs.declared.answering.AnswerError.{AnswerError}
 use Rattle.rls_session.specs.declared.answering.AnswerError.TheVariants.{SinkFault}
-use Rattle.rls_session.specs.declared.answering.Halt.{Halt}
 use Rattle.rls_session.specs.declared.answering.Halt.TheVariants as halt
 use Rattle.rls_session.specs.declared.orders.Order.{Order}
 use Rattle.rls_session.specs.declared.orders.Order.TheVariants.{Quit, Store}

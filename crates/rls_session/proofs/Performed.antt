@@ -1,7 +1,7 @@
 -- How a session ends as over devices that tell, from how its stages do.
-use Rattle.std.proofs.Common.{◌≡◌, ◌∙◌, ◌≤◌, ◌⊎◌, ℕ, Bool, true, false, List, [], ◌++◌, Option, Some, None, IfSome, OnOk, Result, Ok, Err, refl, sym, ap, subst, inl, inr}
+use Rattle.std.proofs.Common.{◌≡◌, ◌∙◌, ℕ, Bool, true, false, List, [], ◌++◌, Option, Some, None, IfSome, OnOk, Result, Ok, Err, refl, sym, subst, inl, inr}
 use Rattle.std.specs.Prelude.{is_ok, ◌≢◌}
-use Rattle.rls_io.specs.Device.{HasFound, Keeps, Passes, PassesAndFails, Rose}
+use Rattle.rls_io.specs.Device.{HasFound, Keeps, Passes, Rose}
 use Rattle.rls_io.specs.declared.devices.Found.{Found}
 use Rattle.rls_io.specs.declared.devices.LoadError.{LoadError}
 use Rattle.rls_io.specs.declared.devices.LoadError.TheVariants as load_error
@@ -14,7 +14,7 @@ use Rattle.rls_stages.specs.declared.errors.OpenError.TheVariants as opening
 use Rattle.rls_stages.specs.Calls.{FindsUnlessFailed, HasLoaded}
 use Rattle.rls_stages.specs.Errors.{Gives, GivesError, IsOpenError, of_open}
 use Rattle.rls_stages.specs.KeptFile.{loaded, replica_in}
-use Rattle.rls_session.specs.AsTold.{AtEnd, Exchanged, Failed, Faults, Fits, IsFound, LoadsAs, OnFile, Open, SessionPerforms, StageAs, Went, reading_of, telling}
+use Rattle.rls_session.specs.AsTold.{AtEnd, Exchanged, Failed, Faults, Fits, IsFound, LoadsAs, Open, SessionPerforms, StageAs, Went, reading_of, telling}
 use Rattle.rls_session.specs.Answers.{sitting_at}
 use Rattle.rls_session.specs.Endings.{IsStatusOf}
 use Rattle.rls_session.proofs.AsTold.{went_any}
@@ -38,9 +38,11 @@ module _ {K S W : Type 0} (load : K → Result Found LoadError → K → Type 0)
         went = went_any write (is_ok r) e.written p q e.went;
         done = done_so r n ((e.how ≢ Failed) × Passes write e.written p q) is (all_passed r e.fits e.went);
         ends = λ rest at.
-            let stage = e.holds (e.bytes ++ rest) rest refl at [] e.written refl (Some kept) in
-            (stage.0, opened_ends (LoadsAs load (Some kept)) store ((j ≡ i) × (q ≡ p)) n k l (telling (Some kept) (Some (e.bytes ++ rest)) (Some []) f) (telling stage.0 (Some rest) (Some e.written) g) r s mid (telling (Some kept) (Some (e.bytes ++ rest)) (Some []) m)
-            is found.2 found.1 refl refl refl keeper input output stage.1);
+            let stage = e.holds (e.bytes ++ rest) rest refl at [] e.written refl (Some kept) in (
+              stage.0,
+              opened_ends (LoadsAs load (Some kept)) store ((j ≡ i) × (q ≡ p)) n k l (telling (Some kept) (Some (e.bytes ++ rest)) (Some []) f) (telling stage.0 (Some rest) (Some e.written) g) r s mid (telling (Some kept) (Some (e.bytes ++ rest)) (Some []) m)
+                  is found.2 found.1 refl refl refl keeper input output stage.1,
+            );
       }
     where
       open_or_end : (ended : Bool) → reading_of ended ≡ Failed → ⊥

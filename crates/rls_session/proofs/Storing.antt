@@ -1,7 +1,7 @@
 -- Storing the file, and telling it, as over devices that tell their file and what was written.
-use Rattle.std.proofs.Common.{◌≡◌, ◌≢◌, ◌∙◌, ◌<◌, ℕ, Bool, true, false, List, [], ◌++◌, length, take, Option, Some, None, IfErr, Result, Ok, Err, refl, sym, ap, subst, inl, inr, append-nil}
+use Rattle.std.proofs.Common.{◌≡◌, ◌≢◌, ◌∙◌, ◌<◌, ℕ, Bool, List, [], ◌++◌, length, take, Option, Some, None, IfErr, Result, Ok, Err, refl, sym, ap, subst, inl, inr, append-nil}
 use Rattle.std.specs.Prelude.{is_ok, option_map}
-use Rattle.rls_io.specs.Device.{Keeps, Passes, PassesAndFails}
+use Rattle.rls_io.specs.Device.{Keeps}
 use Rattle.rls_report.specs.declared.failures.CommandError.{CommandError}
 use Rattle.rls_report.specs.declared.failures.Failure.{Failure}
 use Rattle.rls_report.specs.declared.failures.Failure.TheVariants.{NoCommand, Command, Fault}
@@ -41,7 +41,7 @@ told_went write (Err NoCommand) mid new h = ([], inl ([], refl, h), refl)
 told_went write (Err (Command e)) mid new h = ([], inl ([], refl, h), refl)
 
 -- the file after a store of this replica's
-stored_file : Result Seen CommandError → Option (Option (List ℕ)) → Option (Option (List ℕ))
+abbrev stored_file : Result Seen CommandError → Option (Option (List ℕ)) → Option (Option (List ℕ))
 stored_file (Ok s) file = option_map (λ kept. Some (bytes_over s)) file
 stored_file (Err e) file = file
 
@@ -51,7 +51,7 @@ kept_as (Ok s) file new_file k (Some kept) = (refl, k.1)
 kept_as (Err e) file new_file k f = absurd k
 
 -- as it is after storing that ended so
-file_by : Result (Unit {0}) Failure → Result Seen CommandError → Option (Option (List ℕ)) → Option (Option (List ℕ))
+abbrev file_by : Result (Unit {0}) Failure → Result Seen CommandError → Option (Option (List ℕ)) → Option (Option (List ℕ))
 file_by (Ok u) r file = stored_file r file
 file_by (Err (Fault Sink)) r file = stored_file r file
 file_by (Err f) r file = file

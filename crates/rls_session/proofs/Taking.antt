@@ -1,5 +1,5 @@
 -- What was taken of an input, by what its reads gave.
-use Rattle.std.proofs.Common.{◌≡◌, ◌≢◌, ◌∙◌, ◌+◌, ◌<◌, ◌≤◌, ℕ, zero, suc, Bool, true, false, leb, IsTrue, IsFalse, List, [], ◌∷◌, ◌++◌, length, take, Option, Some, None, IfSome, Result, Ok, Err, refl, sym, ap, subst, arith, append_assoc, append-nil, length-append, length-take}
+use Rattle.std.proofs.Common.{◌≡◌, ◌≢◌, ◌∙◌, ◌+◌, ◌≤◌, ℕ, zero, suc, Bool, true, false, leb, IsTrue, IsFalse, List, [], ◌++◌, length, take, Option, Some, None, Result, Ok, Err, refl, sym, ap, subst, arith, append_assoc, length-append, length-take}
 use Rattle.std.specs.Prelude.{nat_eq, Vec}
 use Rattle.std.specs.declared.alloc.Global.{Global}
 use Rattle.std.specs.List.{position_or_len}
@@ -16,7 +16,7 @@ use Rattle.rls_session.specs.declared.orders.Order.TheVariants as orders
 use Rattle.rls_session.specs.AsTold.{AtEnd, Failed, Given, Open, OrderAnswered, OrderTaken, Took, reading_of}
 use Rattle.rls_session.specs.Answering.{IsAnswered, IsNear, IsNext, IsOver, IsReplied, IsUnused}
 use Rattle.rls_session.specs.Intake.{IntakeSeen, KnowsEnd, taken, to_come}
-use Rattle.rls_session.specs.Requests.{Does, Request, cut_after}
+use Rattle.rls_session.specs.Requests.{Does, cut_after}
 use Rattle.rls_session.proofs.AsTold.{given_failed, given_none, given_on, given_so}
 use Rattle.rls_session.proofs.Courses.{Answers}
 use Rattle.rls_session.proofs.Found.{line_near, order_near, order_replied}

@@ -28,7 +28,7 @@ use Rattle.rls_session.specs.Devices.{Devices}
 use Rattle.rls_session.specs.Intake.{IntakeSeen, IsAtEnd, KeepsEnd, KnowsEnd, known_come, to_come}
 use Rattle.rls_session.specs.Replies.{saved_text}
 use Rattle.rls_session.specs.Requests.{Request, cut_after}
-use Rattle.rls_session.specs.Seats.{Seat, respond, resumed_seat, seated}
+use Rattle.rls_session.specs.Seats.{Seat, respond, resumed_seat}
 use Rattle.rls_session.specs.Sent.{SendsFrom}
 use Rattle.rls_session.specs.Serving.{EndsOrGoesOn, SessionEnds, StageEnds}
 use Rattle.rls_session.specs.Sessions.{by_parts}

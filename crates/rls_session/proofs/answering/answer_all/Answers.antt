@@ -129,8 +129,8 @@ loop-error-preserved g c =
           c.in-Ok-Some.ensures.known (λ q. c.in_default.not-Quit q, λ q. c.in_default.not-Store q) c.in-Ok.ensures.reply (c.in-Ok.ensures.sent (c.loop-error.invariant.writable w));
       as_told = exchanged_went g.S.Source.read_gives g.W.Sink.write_gives _ true _ _ _ _ _ _ _ c.deref.result.now _ _ replied refl (c.in-Ok-write.ensures.gives)
           (λ x y o m n e w. reply_written (seated c.args.desk.now) c.args.intake.now (AreWritable c.args.desk.now.state) c.in-Ok-Some.field-0 c.in-Ok-Some.order c.in-Ok-Some.field-0-is (seat_of c.loop-error.desk c.loop-error.draft) c.loop-error.intake c.next_order.new.intake c.in-Ok-Some.ensures.stays_ended
-              (λ q. c.in_default.not-Quit q, λ q. c.in_default.not-Store q) (seat_of c.reply_to.new.desk c.reply_to.new.draft) c.reply_to.new.intake c.in-Ok.ensures.stays_ended (c.in-Ok-Some.ensures.few c.loop-error.invariant.short) c.in-Ok.reply (Some x) (Some y) (Some o) (Some m) (Some n)
-              (λ w. c.in-Ok.ensures.sent (c.loop-error.invariant.writable w)) (subst (λ (l : List ℕ). Some n ≡ Some (m ++ l)) c.deref.ensures.value (ap (λ (l : List ℕ). Some l) e)) w);
+          (λ q. c.in_default.not-Quit q, λ q. c.in_default.not-Store q) (seat_of c.reply_to.new.desk c.reply_to.new.draft) c.reply_to.new.intake c.in-Ok.ensures.stays_ended (c.in-Ok-Some.ensures.few c.loop-error.invariant.short) c.in-Ok.reply (Some x) (Some y) (Some o) (Some m) (Some n)
+          (λ w. c.in-Ok.ensures.sent (c.loop-error.invariant.writable w)) (subst (λ (l : List ℕ). Some n ≡ Some (m ++ l)) c.deref.ensures.value (ap (λ (l : List ℕ). Some l) e)) w);
       input_never_falls = omega arith;
       never_falls = omega arith;
     }
@@ -164,7 +164,7 @@ pub returns-in-Err-clause-as_told : goal.returns-in-Err-clause-as_told
 returns-in-Err-clause-as_told g c =
     exchanged_given g.S.Source.read_gives g.W.Sink.write_gives _ _ false _ _ _ _ _ _ _ _ _ c.loop-error.invariant.as_told c.in-Err.ensures.given
     (λ x y z o n w t. order_error (seated c.args.desk.now) c.args.intake.now (AreWritable c.args.desk.now.state) c.in-Err.error c.from.result (seat_of c.loop-error.desk c.loop-error.draft) c.loop-error.intake c.next_order.new.intake (Some x) (Some y) (Some z) (Some o) (Some n) c.from.ensures
-        (λ e. let full = c.in-Err.ensures.too_large (ap Err e) in (full.1, full.2)) (λ e. let unread = c.in-Err.ensures.unread (ap Err e) in (unread.1, unread.2)) c.in-Err.ensures.stays_ended c.loop-error.invariant.short w t)
+    (λ e. let full = c.in-Err.ensures.too_large (ap Err e) in (full.1, full.2)) (λ e. let unread = c.in-Err.ensures.unread (ap Err e) in (unread.1, unread.2)) c.in-Err.ensures.stays_ended c.loop-error.invariant.short w t)
 
 pub returns-in-Ok-None-clause-as_told : goal.returns-in-Ok-None-clause-as_told
 returns-in-Ok-None-clause-as_told g c =
@@ -175,13 +175,13 @@ pub returns-in-Quit-clause-as_told : goal.returns-in-Quit-clause-as_told
 returns-in-Quit-clause-as_told g c =
     exchanged_given g.S.Source.read_gives g.W.Sink.write_gives _ _ true _ _ _ _ _ _ _ _ _ c.loop-error.invariant.as_told c.in-Ok-Some.ensures.given
     (λ x y z o n w t. order_quit (seated c.args.desk.now) c.args.intake.now (AreWritable c.args.desk.now.state) c.in-Ok-Some.field-0 c.in-Ok-Some.order c.in-Ok-Some.field-0-is (seat_of c.loop-error.desk c.loop-error.draft) c.loop-error.intake c.next_order.new.intake c.in-Ok-Some.ensures.stays_ended
-        (Some x) (Some y) (Some z) (Some o) (Some n) c.in-Quit.is c.loop-error.invariant.short w t)
+    (Some x) (Some y) (Some z) (Some o) (Some n) c.in-Quit.is c.loop-error.invariant.short w t)
 
 pub returns-in-Store-clause-as_told : goal.returns-in-Store-clause-as_told
 returns-in-Store-clause-as_told g c =
     exchanged_given g.S.Source.read_gives g.W.Sink.write_gives _ _ true _ _ _ _ _ _ _ _ _ c.loop-error.invariant.as_told c.in-Ok-Some.ensures.given
     (λ x y z o n w t. order_store (seated c.args.desk.now) c.args.intake.now (AreWritable c.args.desk.now.state) c.in-Ok-Some.field-0 c.in-Ok-Some.order c.in-Ok-Some.field-0-is (seat_of c.loop-error.desk c.loop-error.draft) c.loop-error.intake c.next_order.new.intake c.in-Ok-Some.ensures.stays_ended
-        (Some x) (Some y) (Some z) (Some o) (Some n) c.in-Store.is c.loop-error.invariant.short w t)
+    (Some x) (Some y) (Some z) (Some o) (Some n) c.in-Store.is c.loop-error.invariant.short w t)
 
 pub returns-in-Err-reply_to-clause-as_told : goal.returns-in-Err-reply_to-clause-as_told
 returns-in-Err-reply_to-clause-as_told g c =
@@ -191,9 +191,9 @@ returns-in-Err-reply_to-clause-as_told g c =
     c.loop-error.invariant.as_told c.in-Ok-Some.ensures.given (λ x y z o n w t. record { mid = Some y; before = w; next = t }) in
     exchanged_given g.S.Source.read_gives g.W.Sink.write_gives _ _ false _ _ _ _ _ _ _ _ _ ordered c.in-Err-reply_to.ensures.given
     (λ x y z o n w t. reply_error (seated c.args.desk.now) c.args.intake.now (AreWritable c.args.desk.now.state) c.in-Ok-Some.field-0 c.in-Ok-Some.order c.in-Ok-Some.field-0-is (seat_of c.loop-error.desk c.loop-error.draft) c.loop-error.intake c.next_order.new.intake c.in-Ok-Some.ensures.stays_ended
-        (λ q. c.in_default.not-Quit q, λ q. c.in_default.not-Store q) (seat_of c.reply_to.new.desk c.reply_to.new.draft) c.reply_to.new.intake c.in-Err-reply_to.ensures.stays_ended (c.in-Ok-Some.ensures.few c.loop-error.invariant.short)
-        c.in-Err-reply_to.error c.from-in-Err-reply_to.result (Some x) (Some y) (Some z) (Some o) (Some n) c.from-in-Err-reply_to.ensures
-        (λ e. let full = c.in-Err-reply_to.ensures.too_large (ap Err e) in (full.1, full.2)) (λ e. let unread = c.in-Err-reply_to.ensures.unread (ap Err e) in (unread.1, unread.2)) w t)
+    (λ q. c.in_default.not-Quit q, λ q. c.in_default.not-Store q) (seat_of c.reply_to.new.desk c.reply_to.new.draft) c.reply_to.new.intake c.in-Err-reply_to.ensures.stays_ended (c.in-Ok-Some.ensures.few c.loop-error.invariant.short)
+    c.in-Err-reply_to.error c.from-in-Err-reply_to.result (Some x) (Some y) (Some z) (Some o) (Some n) c.from-in-Err-reply_to.ensures
+    (λ e. let full = c.in-Err-reply_to.ensures.too_large (ap Err e) in (full.1, full.2)) (λ e. let unread = c.in-Err-reply_to.ensures.unread (ap Err e) in (unread.1, unread.2)) w t)
 
 pub returns-in-Err-write-clause-as_told : goal.returns-in-Err-write-clause-as_told
 returns-in-Err-write-clause-as_told g c =
@@ -209,6 +209,6 @@ returns-in-Err-write-clause-as_told g c =
     let bytes = c.deref.result.now in
     subst (λ (f : AnswerError). Exchanged g.S.Source.read_gives g.W.Sink.write_gives c.args.intake.now.ended false c.reply_to.new.intake.ended c.args.input.now c.reply_to.new.input c.args.output.now c.write.new.output (AllAnswered (seated c.args.desk.now) (seat_of c.reply_to.new.desk c.reply_to.new.draft) (Err f) c.args.intake.now c.reply_to.new.intake (AreWritable c.args.desk.now.state))) (sym c.in-Err-write.ensures.error)
     (exchanged_went g.S.Source.read_gives g.W.Sink.write_gives _ false _ _ _ _ _ _ _ (take part.0 bytes) _ _ replied refl (inr part.2)
-        (λ x y o m n e w. reply_unwritten (seated c.args.desk.now) c.args.intake.now (AreWritable c.args.desk.now.state) c.in-Ok-Some.field-0 c.in-Ok-Some.order c.in-Ok-Some.field-0-is (seat_of c.loop-error.desk c.loop-error.draft) c.loop-error.intake c.next_order.new.intake c.in-Ok-Some.ensures.stays_ended
-            (λ q. c.in_default.not-Quit q, λ q. c.in_default.not-Store q) (seat_of c.reply_to.new.desk c.reply_to.new.draft) c.reply_to.new.intake c.in-Ok.ensures.stays_ended (c.in-Ok-Some.ensures.few c.loop-error.invariant.short) c.in-Ok.reply (Some x) (Some y) (Some o) (Some m) (Some n)
-            (subst (IsCutShort (Some m) (Some n)) c.deref.ensures.value (part.0, part.1, ap (λ (l : List ℕ). Some l) e)) w))
+    (λ x y o m n e w. reply_unwritten (seated c.args.desk.now) c.args.intake.now (AreWritable c.args.desk.now.state) c.in-Ok-Some.field-0 c.in-Ok-Some.order c.in-Ok-Some.field-0-is (seat_of c.loop-error.desk c.loop-error.draft) c.loop-error.intake c.next_order.new.intake c.in-Ok-Some.ensures.stays_ended
+    (λ q. c.in_default.not-Quit q, λ q. c.in_default.not-Store q) (seat_of c.reply_to.new.desk c.reply_to.new.draft) c.reply_to.new.intake c.in-Ok.ensures.stays_ended (c.in-Ok-Some.ensures.few c.loop-error.invariant.short) c.in-Ok.reply (Some x) (Some y) (Some o) (Some m) (Some n)
+    (subst (IsCutShort (Some m) (Some n)) c.deref.ensures.value (part.0, part.1, ap (λ (l : List ℕ). Some l) e)) w))

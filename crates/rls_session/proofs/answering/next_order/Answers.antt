@@ -1,4 +1,4 @@
-use Rattle.std.proofs.Common.{◌≡◌, ◌∙◌, ◌<◌, ℕ, List, [], length, true, false, sym, subst, arith, refl, Some, rules}
+use Rattle.std.proofs.Common.{◌≡◌, ◌∙◌, ◌<◌, ℕ, List, [], length, true, false, sym, subst, arith, refl, Some}
 use Rattle.std.proofs.lemmas.Bool.{eqb-true}
 use Rattle.std.proofs.lemmas.List.{nil_from_length}
 use Rattle.rls_io.specs.declared.reading.ReadError.TheVariants as read_error
@@ -47,6 +47,6 @@ returns-in-Ok-order_of-clause-given g c =
     let some : 0 < length c.find_line.new.self.waiting = subst (λ (l : List ℕ). 0 < length l) c.waiting-waiting.ensures.waiting (is_longer c.waiting-waiting.result.now (sym c.is_empty.ensures ∙ c.if-is_empty.false)) in
     line_order g.S.Source.read_gives c.in-Ok-order_of.order c.args.intake.now c.find_line.new.self c.use_up.new.self c.args.input.now c.find_line.new.source c.in-Ok.ensures.given c.use_up.ensures.ended
     (λ x y took. found_order c.args.intake.now c.find_line.new.self c.use_up.new.self (Some x) (Some y) c.in-Ok.n c.min-size.result c.waiting-waiting.result.now _ c.in-Ok-order_of.order
-        took.same c.in-Ok.ensures.used c.in-Ok.ensures.line c.in-Ok.ensures.few c.in-Ok.ensures.few_at_end (λ all known. took.at_end (c.in-Ok.ensures.ended all)) some c.waiting-waiting.ensures.waiting refl c.in-Ok-order_of.ensures.order c.min-size.ensures
-        c.use_up.ensures.waiting c.use_up.ensures.used c.in-Ok.ensures.ended c.use_up.ensures.ended)
+    took.same c.in-Ok.ensures.used c.in-Ok.ensures.line c.in-Ok.ensures.few c.in-Ok.ensures.few_at_end (λ all known. took.at_end (c.in-Ok.ensures.ended all)) some c.waiting-waiting.ensures.waiting refl c.in-Ok-order_of.ensures.order c.min-size.ensures
+    c.use_up.ensures.waiting c.use_up.ensures.used c.in-Ok.ensures.ended c.use_up.ensures.ended)
     c.in-Ok.ensures.ahead

@@ -23,5 +23,5 @@ returns-in-Ok-clause-given g c = order_given g.S.Source.read_gives (respond by_p
 pub returns-in-Take-clause-given : goal.returns-in-Take-clause-given
 returns-in-Take-clause-given g c =
     subst (λ (o : Order). Given g.S.Source.read_gives c.args.intake.now.ended (is_ok c.reply_to_message.result) c.reply_to_message.new.intake.ended c.args.input.now c.reply_to_message.new.input
-        (OrderAnswered (respond by_parts (seat_of c.args.desk.now c.args.draft.now)) o (seat_of c.reply_to_message.new.desk c.reply_to_message.new.draft) c.reply_to_message.result c.args.intake.now c.reply_to_message.new.intake))
+    (OrderAnswered (respond by_parts (seat_of c.args.desk.now c.args.draft.now)) o (seat_of c.reply_to_message.new.desk c.reply_to_message.new.draft) c.reply_to_message.result c.args.intake.now c.reply_to_message.new.intake))
     (sym c.in-Take.is) c.reply_to_message.ensures.given

@@ -29,7 +29,7 @@ pub returns-in-Ok-clause-given : goal.returns-in-Ok-clause-given
 returns-in-Ok-clause-given g c = message_given g.S.Source.read_gives (respond by_parts) (seat_of c.args.desk.now c.args.draft.now) c.args.len (seat_of c.take.new.desk c.take.new.draft) c.in-Ok.reply c.args.intake.now c.find_bytes.new.self c.use_up.new.self c.args.input.now c.find_bytes.new.source
     c.in-Ok-true.ensures.given c.use_up.ensures.ended
     (λ x y took. message_replied (respond by_parts) (seat_of c.args.desk.now c.args.draft.now) (seat_of c.take.new.desk c.take.new.draft) c.args.intake.now c.find_bytes.new.self c.use_up.new.self (Some x) (Some y) c.args.len c.waiting.result.now _ c.in-Ok.reply.items
-        took.same c.in-Ok-true.ensures.used (c.in-Ok-true.ensures.there (ap Ok c.in-Ok-true.field-0-test)) c.waiting.ensures.waiting refl c.in-Ok.ensures.answered c.use_up.ensures.waiting c.use_up.ensures.used)
+    took.same c.in-Ok-true.ensures.used (c.in-Ok-true.ensures.there (ap Ok c.in-Ok-true.field-0-test)) c.waiting.ensures.waiting refl c.in-Ok.ensures.answered c.use_up.ensures.waiting c.use_up.ensures.used)
     c.in-Ok-true.ensures.ahead
 
 pub returns-in-Err-answer-clause-given : goal.returns-in-Err-answer-clause-given
@@ -43,5 +43,5 @@ returns-in-Ok-answer-clause-given g c =
     message_given g.S.Source.read_gives (respond by_parts) (seat_of c.args.desk.now c.args.draft.now) c.args.len (seat_of c.answer.new.desk c.answer.new.draft) c.in-Ok-answer.reply c.args.intake.now c.find_bytes.new.self c.use_up-in-Ok-false.new.self c.args.input.now c.find_bytes.new.source
     c.in-Ok-false.ensures.given c.use_up-in-Ok-false.ensures.ended
     (λ x y took. bad_replied (respond by_parts) (seat_of c.args.desk.now c.args.draft.now) (seat_of c.answer.new.desk c.answer.new.draft) c.args.intake.now c.find_bytes.new.self c.use_up-in-Ok-false.new.self (Some x) (Some y) c.args.len (length c.waiting-n.result.now) c.in-Ok-answer.reply.items
-        took.same c.in-Ok-false.ensures.used end.0 (λ known. took.at_end ended) (ap length c.waiting-n.ensures.waiting) c.in-Ok-answer.ensures.answered c.use_up-in-Ok-false.ensures.waiting c.use_up-in-Ok-false.ensures.used ended c.use_up-in-Ok-false.ensures.ended)
+    took.same c.in-Ok-false.ensures.used end.0 (λ known. took.at_end ended) (ap length c.waiting-n.ensures.waiting) c.in-Ok-answer.ensures.answered c.use_up-in-Ok-false.ensures.waiting c.use_up-in-Ok-false.ensures.used ended c.use_up-in-Ok-false.ensures.ended)
     c.in-Ok-false.ensures.ahead
