@@ -3,8 +3,10 @@ use Rattle.std.proofs.Common.{◌≡◌, ◌≢◌, ◌∙◌, ◌⊎◌, ◌<�
 use Rattle.rls_ident.specs.Lists.{IsIn}
 use Rattle.rls_ident.proofs.Members.{in_left, in_right}
 use Rattle.std.specs.Prelude.{is_ok}
+use Rattle.rls_io.specs.Calls.{Answer}
 use Rattle.rls_io.specs.Device.{LoadsWith}
 use Rattle.rls_journal.specs.Areas.{Areas, kept}
+use Rattle.rls_journal.specs.Calls.{DiskCall, StoresBy}
 use Rattle.rls_journal.specs.Disk.{LeavesOnly}
 use Rattle.rls_journal.specs.Keeper.{IsAtRest, IsOldOrNew, LoadGives, Rests, StoreGives}
 use Rattle.rls_journal.specs.Slots.{HasStored, IsSound}
@@ -38,12 +40,12 @@ stored_later : (bytes first : List ℕ) (old mid new : Option Areas) (may_leave 
 stored_later bytes first None mid new may_leave any h k = subst (λ o. HasStored bytes o new may_leave) h k
 stored_later bytes first (Some old) mid new may_leave any h k = subst (λ o. HasStored bytes o new may_leave) h.1 k
 
-module _ {D : Type 0} (retries : Type 0) (seen : D → Option Areas) (may_leave : D → Areas → Type 0) (moment : D → ℕ) (left_since : D → ℕ → Areas → Type 0) (only : (disk : D) (c : Areas) → left_since disk (moment disk) c → may_leave disk c) {K : Type 0} (disk : K → D) where
+module _ {D : Type 0} (retries : Type 0) (seen : D → Option Areas) (may_leave : D → Areas → Type 0) (moment : D → ℕ) (left_since : D → ℕ → Areas → Type 0) (only : (disk : D) (c : Areas) → left_since disk (moment disk) c → may_leave disk c) (answers : D → DiskCall → Answer → D → Type 0) {K : Type 0} (disk : K → D) where
   abbrev load : K → Bool → K → Type 0
   load = LoadsWith (λ before answer after. LoadGives retries seen may_leave moment left_since (is_ok answer) (disk before) (disk after))
 
   abbrev store : K → List ℕ → Bool → K → Type 0
-  store before bytes ok after = StoreGives retries seen may_leave moment left_since bytes ok (disk before) (disk after)
+  store before bytes ok after = StoreGives retries seen may_leave moment left_since bytes ok (disk before) (disk after) × StoresBy answers bytes ok (disk before) (disk after)
 
   abbrev Leaves : K → K → (Areas → Type 0) → Type 0
   Leaves k l P = LeavesOnly moment left_since (disk k) (disk l) P
@@ -77,10 +79,10 @@ module _ {D : Type 0} (retries : Type 0) (seen : D → Option Areas) (may_leave 
   stores_only : (ok : Bool) (bytes : List ℕ) (k l : K) (file : Option (List ℕ)) → RestsWith k file → store k bytes ok l → Leaves k l (λ c. (kept c ≡ file) ⊎ (kept c ≡ Some bytes))
   stores_only ok bytes k l file r h =
       weaker k l (IsOldOrNew (kept r.areas) bytes) (λ c. (kept c ≡ file) ⊎ (kept c ≡ Some bytes)) (λ c p. ⊎_elim (λ q. inl (q ∙ r.same)) (λ q. inr q) p)
-      (at_some (seen (disk k)) (λ s. Leaves k l (IsOldOrNew (kept s) bytes)) r.areas r.is (h.any_moment (rest_is k file r)))
+      (at_some (seen (disk k)) (λ s. Leaves k l (IsOldOrNew (kept s) bytes)) r.areas r.is ((h.0).any_moment (rest_is k file r)))
 
   rests_with : (bytes : List ℕ) (k l : K) (file : Option (List ℕ)) → RestsWith k file → store k bytes true l → RestsWith l (Some bytes)
-  rests_with bytes k l file r h = let q = subst (λ o. HasStored bytes o (seen (disk l)) (may_leave (disk l))) r.is (h.stored refl) in record { areas = q.0; is = q.1; same = q.2; rest = at_some (seen (disk l)) (λ s. Rests retries s (may_leave (disk l))) q.0 q.1 (h.rest refl) }
+  rests_with bytes k l file r h = let q = subst (λ o. HasStored bytes o (seen (disk l)) (may_leave (disk l))) r.is ((h.0).stored refl) in record { areas = q.0; is = q.1; same = q.2; rest = at_some (seen (disk l)) (λ s. Rests retries s (may_leave (disk l))) q.0 q.1 ((h.0).rest refl) }
 
   -- stores of several, and what is kept then
   abbrev Kept : List (List ℕ) → K → K → Option (List ℕ) → Type 0
@@ -110,7 +112,7 @@ module _ {D : Type 0} (retries : Type 0) (seen : D → Option Areas) (may_leave 
   InTurn file files failed k l = LeavesInTurn moment left_since (StoreGives retries seen may_leave moment left_since) file files failed (disk k) (disk l)
 
   in_store : (ok : Bool) (bytes : List ℕ) (k l : K) (file : Option (List ℕ)) → RestsWith k file → store k bytes ok l → InStore file bytes ok (disk k) (disk l)
-  in_store ok bytes k l file r h = record { called = disk k; until = uncalled k file r; store = h; within = stores_only ok bytes k l file r h }
+  in_store ok bytes k l file r h = record { called = disk k; until = uncalled k file r; store = h.0; within = stores_only ok bytes k l file r h }
 
   turns : (files : List (List ℕ)) (failed : Option (List ℕ)) (k m l : K) (file : Option (List ℕ)) → RestsWith k file → StoresEach store files k m → FailsOnce store failed m l → InTurn file files failed k l
   turns [] None k m l file r h f = subst (λ (x : K). Leaves k x (IsOld file)) (sym (f ∙ h)) (uncalled k file r)
@@ -171,8 +173,8 @@ module _ {D : Type 0} (retries : Type 0) (seen : D → Option Areas) (may_leave 
 
     -- after a session that stored all
     last_stored : (bytes : List ℕ) (files : List (List ℕ)) (k l : K) → StoresEach store (bytes ∷ files) k l → HasStored (last_of bytes files) (seen (disk k)) (seen (disk l)) (may_leave (disk l))
-    last_stored bytes [] k l h = subst (λ (x : K). HasStored bytes (seen (disk k)) (seen (disk x)) (may_leave (disk x))) (sym h.2) ((h.1).stored refl)
-    last_stored bytes (next ∷ files) k l h = stored_later (last_of next files) bytes (seen (disk k)) (seen (disk h.0)) (seen (disk l)) (may_leave (disk l)) (may_leave (disk h.0)) ((h.1).stored refl) (last_stored next files h.0 l h.2)
+    last_stored bytes [] k l h = subst (λ (x : K). HasStored bytes (seen (disk k)) (seen (disk x)) (may_leave (disk x))) (sym h.2) (((h.1).0).stored refl)
+    last_stored bytes (next ∷ files) k l h = stored_later (last_of next files) bytes (seen (disk k)) (seen (disk h.0)) (seen (disk l)) (may_leave (disk l)) (may_leave (disk h.0)) (((h.1).0).stored refl) (last_stored next files h.0 l h.2)
 
     pub last_kept : (ds : Option (List Due)) → Called → 0 < length x.stored → IfSome ds (λ ds. AreAllFilesOf ds x.stored) → n ≡ 0 → HasDue seen may_leave (IsLastDue ds) (disk old) (disk new)
     last_kept ds calls some all zero = go calls
@@ -199,7 +201,7 @@ module _ {D : Type 0} (retries : Type 0) (seen : D → Option Areas) (may_leave 
       where
         each_rest : (files : List (List ℕ)) (k m : K) → IsAtRest retries seen may_leave (disk k) → StoresEach store files k m → IsAtRest retries seen may_leave (disk m)
         each_rest [] k m rest h = subst (λ (y : K). IsAtRest retries seen may_leave (disk y)) (sym h) rest
-        each_rest (bytes ∷ files) k m rest h = each_rest files h.0 m ((h.1).rest refl) h.2
+        each_rest (bytes ∷ files) k m rest h = each_rest files h.0 m (((h.1).0).rest refl) h.2
 
         go : (failed : Option (List ℕ)) → FailsOnce store failed l.at_failure new → IsStatusAfter failed n → IsAtRest retries seen may_leave (disk l.at_failure) → IsAtRest retries seen may_leave (disk new)
         go None f status rest = subst (λ (y : K). IsAtRest retries seen may_leave (disk y)) (sym f) rest

@@ -1,8 +1,10 @@
 -- What a stop leaves of the disk, from the calls of the keeper that a command or a session makes.
 use Rattle.std.proofs.Common.{◌≡◌, ◌≢◌, ◌∙◌, ⊎_elim, inl, inr, ℕ, Bool, true, false, List, Option, Some, IfSome, IsTrue, IsFalse, refl, sym, subst, arith}
 use Rattle.std.specs.Prelude.{is_ok}
+use Rattle.rls_io.specs.Calls.{Answer}
 use Rattle.rls_io.specs.Device.{LoadsWith}
 use Rattle.rls_journal.specs.Areas.{Areas, kept}
+use Rattle.rls_journal.specs.Calls.{DiskCall, StoresBy}
 use Rattle.rls_journal.specs.Disk.{LeavesOnly}
 use Rattle.rls_journal.specs.Keeper.{IsAtRest, IsOldOrNew, LoadGives, Rests, StoreGives}
 use Rattle.rls_journal.specs.Slots.{HasStored, IsSound}
@@ -38,12 +40,12 @@ module _ {D : Type 0} (retries : Type 0) (seen : D → Option Areas) (may_leave 
         before = λ t c le left. ⊎_elim (λ past. ⊎_elim (λ early. inl early) (λ same. inr (inl same)) (front.before t c le past)) (λ p. inr p) (back.before t c (omega (arith, le, front.later)) left);
       }
 
-  module _ {K : Type 0} (disk : K → D) (needs stores : Bool) (IsDue : List ℕ → Type 0) (Surely Perhaps : ℕ → Type 0) (untouched : Type 0) (n : ℕ) (old new : K) where
+  module _ (answers : D → DiskCall → Answer → D → Type 0) {K : Type 0} (disk : K → D) (needs stores : Bool) (IsDue : List ℕ → Type 0) (Surely Perhaps : ℕ → Type 0) (untouched : Type 0) (n : ℕ) (old new : K) where
     abbrev load : K → Bool → K → Type 0
     load = LoadsWith (λ before answer after. LoadGives retries seen may_leave moment left_since (is_ok answer) (disk before) (disk after))
 
     abbrev store : K → List ℕ → Bool → K → Type 0
-    store before bytes ok after = StoreGives retries seen may_leave moment left_since bytes ok (disk before) (disk after)
+    store before bytes ok after = StoreGives retries seen may_leave moment left_since bytes ok (disk before) (disk after) × StoresBy answers bytes ok (disk before) (disk after)
 
     abbrev Leaves : Option (List ℕ) → Type 0
     Leaves before = LeavesOldOrDue moment left_since stores IsDue before (disk old) (disk new)
@@ -52,8 +54,8 @@ module _ {D : Type 0} (retries : Type 0) (seen : D → Option Areas) (may_leave 
     survived_at s is rest (CallsNothing same none at) = inl (subst (λ (k : K). LeavesOnly moment left_since (disk old) (disk k) (IsOld (kept s))) (sym same) (uncalled_only (disk old) (kept s) (rest_kept retries seen may_leave moment left_since only s (disk old) rest)))
     survived_at s is rest (FailsToLoad l at u) = inl (loaded_only false (disk old) (disk new) s is rest l.1)
     survived_at s is rest (Loads l at u) = inl (loaded_only true (disk old) (disk new) s is rest l.1)
-    survived_at s is rest (FailsToStore l some at) = inr (some, (l.bytes, l.due, stored_only l.bytes false (disk old) (disk l.between) (disk new) s is rest l.loaded.1 l.stored))
-    survived_at s is rest (Stores l some at) = inr (some, (l.bytes, l.due, stored_only l.bytes true (disk old) (disk l.between) (disk new) s is rest l.loaded.1 l.stored))
+    survived_at s is rest (FailsToStore l some at) = inr (some, (l.bytes, l.due, stored_only l.bytes false (disk old) (disk l.between) (disk new) s is rest l.loaded.1 l.stored.0))
+    survived_at s is rest (Stores l some at) = inr (some, (l.bytes, l.due, stored_only l.bytes true (disk old) (disk l.between) (disk new) s is rest l.loaded.1 l.stored.0))
 
     -- a stop at any moment
     pub survived : CallsOf load store needs stores IsDue Surely Perhaps untouched n old new → IsAtRest retries seen may_leave (disk old) → IfSome (seen (disk old)) (λ s. LeavesOldOrDue moment left_since stores IsDue (kept s) (disk old) (disk new))
@@ -65,7 +67,7 @@ module _ {D : Type 0} (retries : Type 0) (seen : D → Option Areas) (may_leave 
     kept_due (FailsToLoad l fails u) apart some at = absurd (apart fails at)
     kept_due (Loads l other shows) apart some at = both stores some (shows at)
     kept_due (FailsToStore l m fails) apart some at = absurd (apart fails at)
-    kept_due (Stores l m perhaps) apart some at = (l.bytes, l.due, subst (λ o. HasStored l.bytes o (seen (disk new)) (may_leave (disk new))) (l.loaded.1).looks.same (l.stored.stored refl))
+    kept_due (Stores l m perhaps) apart some at = (l.bytes, l.due, subst (λ o. HasStored l.bytes o (seen (disk new)) (may_leave (disk new))) (l.loaded.1).looks.same ((l.stored.0).stored refl))
 
     -- at rest
     pub rests_again : CallsOf load store needs stores IsDue Surely Perhaps untouched n old new → IsTrue needs → n ≢ 7 → n ≢ 10 → IsSound retries seen may_leave (disk old) → IsAtRest retries seen may_leave (disk new)
@@ -74,4 +76,4 @@ module _ {D : Type 0} (retries : Type 0) (seen : D → Option Areas) (may_leave 
     rests_again (FailsToLoad l at u) calls seven ten sound = absurd (⊎_elim seven ten at)
     rests_again (Loads l at u) calls seven ten sound = (l.1).rest refl sound
     rests_again (FailsToStore l some at) calls seven ten sound = absurd (⊎_elim seven ten at)
-    rests_again (Stores l some at) calls seven ten sound = l.stored.rest refl
+    rests_again (Stores l some at) calls seven ten sound = (l.stored.0).rest refl

@@ -86,7 +86,7 @@ impl<D: Disk> Keeper for DiskKeeper<D> {
 
     ghost load_gives = { λ old answer new. LoadGives D.retries D.seen D.may_leave D.moment D.left_since (is_ok answer) (disk_of old) (disk_of new) };
 
-    ghost store_gives = { λ old bytes ok new. StoreGives D.retries D.seen D.may_leave D.moment D.left_since bytes ok (disk_of old) (disk_of new) };
+    ghost store_gives = { λ old bytes ok new. StoreGives D.retries D.seen D.may_leave D.moment D.left_since bytes ok (disk_of old) (disk_of new) × StoresBy D.answers bytes ok (disk_of old) (disk_of new) };
 
     fn load(&mut self, alloc: Global, limit: u64) -> Result<Found, LoadError>
         ensures found { IfOk result (λ found. IfSome (file_told D.seen self.old) (λ kept. Loads kept limit found)) }
