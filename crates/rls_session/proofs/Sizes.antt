@@ -1,5 +1,5 @@
 -- What is told of a rename.
-use Rattle.std.proofs.Common.{◌≡◌, ◌∙◌, ◌+◌, ◌<◌, ◌≤◌, ◌==◌, ℕ, Bool, true, false, cond, nat_lt, List, ◌∷◌, length, drop, sum_by, Option, Some, None, refl, sym, ap, arith}
+use Rattle.std.proofs.Common.{◌≡◌, ◌∙◌, ◌+◌, ◌==◌, ℕ, Bool, true, false, cond, nat_lt, List, ◌∷◌, length, drop, sum_by, Some, None, refl, sym, ap, arith}
 use Rattle.std.specs.Prelude.{slice_get}
 use Rattle.rls_ident.specs.declared.limits.TheConstants.{IDENTIFIERS, GREATEST_NUMBER, OPERATION_BYTES}
 use Rattle.rls_ident.proofs.Members.{lt_is, not_lt_is}
@@ -10,7 +10,6 @@ use Rattle.rls_log.proofs.Steps.{size_next}
 use Rattle.rls_log.proofs.Uncovered.{covered_step, uncovered_step}
 use Rattle.rls_runs.specs.Runs.{runs_of}
 use Rattle.rls_model.specs.declared.counts.Counts.{Counts}
-use Rattle.rls_model.specs.declared.edit.EditError.{EditError}
 use Rattle.rls_model.specs.declared.edit.EditError.TheVariants.{EmptyDocument, Left, NumbersSpent, OpTooLarge, TooManyChars}
 use Rattle.rls_model.specs.EditParts.{or_fault}
 use Rattle.rls_model.specs.Receiving.{State}
