@@ -55,10 +55,10 @@ ben_edits() {
 
 ben_text() { (cd "$room/ben" && "$RLS" text); }
 
-# Waits until a command prints this, for two minutes or more; $1 says what is looked at.
+# Waits until a command prints this, for RLS_PATIENCE seconds (two minutes) or more; $1 says what is looked at.
 wait_for() {
   local found
-  for _ in $(seq 600); do
+  for _ in $(seq $((5 * ${RLS_PATIENCE:-120}))); do
     found=$("${@:3}" && echo .) || true
     [ "$found" = "$2." ] && { echo "ok      $1"; return 0; }
     sleep 0.2
