@@ -212,7 +212,9 @@ function align(old, olds, new, news, by_anchors,  numbers, is_old, k, i, m, j, n
 }
 
 function has_word(s) { return s ~ /[^\t-\r ]/ }
-function loses_line(gone, come) { return gone ~ /\n/ && come !~ /\n/ }
+
+# Whether a line feed goes that stands after the last word that goes, and none comes.
+function loses_line(gone, come) { return gone ~ /\n[\t-\r ]*$/ && come !~ /\n/ }
 
 # What goes and what comes. White space that is left between two words keeps its last character, or gets a new one behind all of it.
 function put(p, s, q, t,  gone, come, is_blank) {
@@ -235,7 +237,28 @@ function replace(p, s, q, t,  a0, s0) {
   if (p < s || q < t) while (p > a0 && (is_joined(OLD, p) || is_joined(NEW, q))) { p--; q-- }
   while (s > p && t > q && substr(OLD, s, 1) == substr(NEW, t, 1)) { s--; t-- }
   while (s < s0 && (is_joined(OLD, s) || is_joined(NEW, t))) { s++; t++ }
-  if (s > p || t > q) hand_on(p, s, q, t)
+  if (s > p || t > q) in_place(p, s, q, t)
+}
+
+# What goes and what comes. Where one of them is nothing, it may have several places, and one that isn't within a word is taken, of a
+# thousand.
+function in_place(p, s, q, t,  k, back, is_within, is_same) {
+  if (p == s || q == t) {
+    is_within = is_within_word(p, s, q, t)
+    for (k = 1; is_within && k <= 1000 && p - k >= told; k++) {
+      is_same = substr(OLD, p - k + 1, 1) == (p == s ? substr(NEW, t - k + 1, 1) : substr(OLD, s - k + 1, 1))
+      if (!is_same) break
+      is_within = is_within_word(p - k, s - k, q - k, t - k)
+      if (!is_within) back = k
+    }
+  }
+  hand_on(p - back, s - back, q - back, t - back)
+}
+
+# Whether a place is within a word, or between a character and what belongs to it.
+function is_within_word(p, s, q, t) {
+  if (is_joined(OLD, p) || is_joined(OLD, s) || is_joined(NEW, q) || is_joined(NEW, t)) return 1
+  return p > 0 && s < length(OLD) && !space[substr(OLD, p, 1)] && !space[substr(OLD, s + 1, 1)]
 }
 
 function hand_on(p, s, q, t,  goes, come) {

@@ -11,7 +11,7 @@ for case in json_decode(substitute(join(readfile('cases.json'), ''), '\\u0000', 
   const old: list<number> = Characters(case.old)
   const new: list<number> = Characters(case.new)
   var found: list<any> = []
-  for [p, m, q, n] in compare.Compared(old, new)
+  for [p, m, q, n] in compare.Compared(old, new, 60.0)
     add(found, [p, m - p, n > q ? list2str(new[q : n - 1]->map((_, x) => x == 0x110000 ? 0xFDD0 : x)) : ''])
   endfor
   add(lines, substitute(json_encode(found), nr2char(0xFDD0), '\\u0000', 'g'))

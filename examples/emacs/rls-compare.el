@@ -16,6 +16,10 @@
 (defvar rls-compare--spent 0 "Steps of the search.")
 (defvar rls-compare--cut nil "Whether it went on by cheaper means.")
 (defvar rls-compare--late 0 "When it goes on line by line.")
+(defvar rls-compare--joins nil
+  "Whether two texts are put together.
+Then they are compared by words alone, since of words that went from one line to
+the next both would stay.")
 (defvar rls-compare-was-coarse nil "Whether the last comparison went on by cheaper means.")
 (defcustom rls-compare-seconds 15
   "Seconds of comparing what one command changed.
@@ -151,7 +155,8 @@ What the other one doesn't have is left out first."
   (let ((at (string-match "[^\t-\r ]" text from))) (and at (< at end))))
 
 (defun rls-compare--loses-line-p (gone come)
-  (and (string-search "\n" gone) (not (string-search "\n" come))))
+  "Whether a line feed of GONE stands after its last word, and COME has none."
+  (and (string-match-p "\n[\t-\r ]*\\'" gone) (not (string-search "\n" come))))
 
 (defun rls-compare--put (a m b n)
   "What goes and what comes from A to M and from B to N.
@@ -173,7 +178,29 @@ new one behind all of it."
       (while (and (> p a) (or (rls-compare--joined-p old p) (rls-compare--joined-p new q))) (setq p (1- p) q (1- q))))
     (while (and (> s p) (> n q) (eq (aref old (1- s)) (aref new (1- n)))) (setq s (1- s) n (1- n)))
     (while (and (< s m) (or (rls-compare--joined-p old s) (rls-compare--joined-p new n))) (setq s (1+ s) n (1+ n)))
-    (when (or (> s p) (> n q)) (push (list p (- s p) (substring new q n)) rls-compare--found))))
+    (when (or (> s p) (> n q)) (rls-compare--place p s q n))))
+
+(defconst rls-compare--back 1000 "Characters back for which a better place is looked for.")
+
+(defun rls-compare--place (p s q n)
+  "What goes and what comes from P to S and from Q to N.
+Where one of them is nothing, it may have several places, and one that isn't
+within a word is taken."
+  (let* ((old rls-compare--old) (new rls-compare--new) (comes (= p s)) (side (if comes new old)) (end (if comes n s)) (back 0) (k 0)
+         (last (car rls-compare--found)) (least (if last (+ (nth 0 last) (nth 1 last)) 0)))
+    (when (or comes (= q n))
+      (let ((within (rls-compare--within-word-p p s q n)))
+        (while (and within (< k rls-compare--back) (> (- p k) least) (eq (aref old (- p k 1)) (aref side (- end k 1))))
+          (setq k (1+ k) within (rls-compare--within-word-p (- p k) (- s k) (- q k) (- n k))))
+        (unless within (setq back k))))
+    (push (list (- p back) (- s p) (substring new (- q back) (- n back))) rls-compare--found)))
+
+(defun rls-compare--within-word-p (p s q n)
+  "Whether the place from P to S, and from Q to N, is within a word.
+Or it is between a character and what belongs to it."
+  (let ((old rls-compare--old) (new rls-compare--new))
+    (or (rls-compare--joined-p old p) (rls-compare--joined-p old s) (rls-compare--joined-p new q) (rls-compare--joined-p new n)
+        (and (> p 0) (< s (length old)) (not (rls-compare--space-p (aref old (1- p)))) (not (rls-compare--space-p (aref old s)))))))
 
 (defun rls-compare--parts (regexp text)
   (let ((at 0) (found nil))
@@ -263,7 +290,7 @@ White space between white space that differs is a part of that."
         (let ((pairs (rls-compare--align (cl-map 'vector #'cdr old) (cl-map 'vector #'cdr new) nil))
               (size (lambda (side) (let ((n 0)) (mapc (lambda (x) (setq n (+ n (length (cdr x))))) side) n))) (same 0))
           (dolist (pair pairs) (setq same (+ same (length (cdr (aref old (car pair)))))))
-          (unless (< (* 5 same) (min (funcall size old) (funcall size new)))
+          (unless (and (not rls-compare--joins) (< (* 5 same) (min (funcall size old) (funcall size new))))
             (dolist (pair pairs)
               (let ((x (aref old (car pair))))
                 (rls-compare--stays (+ a (car x)) (+ b (car (aref new (cdr pair)))) (length (cdr x)))))))))))
@@ -289,11 +316,11 @@ They do so for half of the shorter."
 (defun rls-compare--without-spaces (text) (replace-regexp-in-string "[\t-\r ]+" "" text t t))
 
 (defun rls-compare--other-lines (a old b new)
-  (unless (and (= (length old) (length new)) (rls-compare--line-by-line-p old new))
+  (unless (and (not rls-compare--joins) (= (length old) (length new)) (rls-compare--line-by-line-p old new))
     (setq old (list (apply #'concat old)) new (list (apply #'concat new))))
   (while old
     (let ((x (pop old)) (y (pop new)))
-      (if (> (float-time) rls-compare--late) (setq rls-compare--cut t) (rls-compare--words a x b y))
+      (if (> (float-time (get-internal-run-time)) rls-compare--late) (setq rls-compare--cut t) (rls-compare--words a x b y))
       (setq a (+ a (length x)) b (+ b (length y))))))
 
 (defun rls-compare--sizes-before (parts)
@@ -313,7 +340,7 @@ Their places are those of OLD.  The first BEFORE and the last AFTER characters
 stay."
   (let* ((before (or before 0)) (after (or after 0)) (end (- (length old) after)) (new-end (- (length new) after)) (gone (substring old before end)) (come (substring new before new-end))
          (rls-compare--old old) (rls-compare--new new) (rls-compare--at before) (rls-compare--to before) (rls-compare--low 0) (rls-compare--high 0) (rls-compare--found nil)
-         (rls-compare--spent 0) (rls-compare--cut nil) (rls-compare--late (+ (float-time) rls-compare-seconds)) (case-fold-search nil)
+         (rls-compare--spent 0) (rls-compare--cut nil) (rls-compare--late (+ (float-time (get-internal-run-time)) rls-compare-seconds)) (case-fold-search nil)
          (olds (rls-compare--lines gone)) (news (rls-compare--lines come))
          (key #'rls-compare--without-spaces)
          (a before) (b before) (i 0) (j 0) (last (length olds)))

@@ -178,7 +178,14 @@
     (should rls-compare-was-coarse)
     (should (>= (length found) 400))
     (dolist (x found) (setq old (concat (substring old 0 (car x)) (nth 2 x) (substring old (+ (car x) (nth 1 x))))))
-    (should (equal old new))))
+    (should (equal old new)))
+  ;; A buffer that is opened again is compared by words all the same: otherwise its words would be there twice.
+  (let ((rls-compare-seconds -1))
+    (should (equal (rls--joined "one two\nthree" "one two\nthree four") "one two\nthree four")))
+  (should (equal (rls--joined "Then tea" "They tea") "Then They tea"))
+  ;; One word more, and another one goes to the next line: each is there once.
+  (let ((here "a1 aaaa bbbb\ncccc dddd eeee ffff gggg\nhhhh iiii jjjj kkkk\nllll mmmm"))
+    (should (equal (split-string (rls--joined here "aaaa bbbb\ncccc dddd eeee ffff\ngggg hhhh iiii jjjj kkkk\nllll mmmm")) (split-string here)))))
 
 (defun rls-test-mode (path) (logand #o777 (file-modes path)))
 

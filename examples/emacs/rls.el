@@ -397,14 +397,20 @@ since what isn't in the buffer may be of others."
       (setq rls--failed fault rls--fault (concat "NOT stored: " (replace-regexp-in-string "\\`rls: " "" (or fault "not yet")))))))
 
 (defun rls--joined (text other)
-  "TEXT with what OTHER has beside: nothing of TEXT goes."
-  (let ((parts nil) (end (length text)))
-    (dolist (x (rls-compare text other))
-      (let ((to (+ (nth 0 x) (nth 1 x))))
-        (push (substring text to end) parts)
-        (push (nth 2 x) parts)
-        (setq end to)))
-    (apply #'concat (substring text 0 end) parts)))
+  "TEXT with what OTHER has beside: nothing of TEXT goes.
+It takes the time that it needs: of lines that aren't compared by words all
+would be there twice."
+  (let ((parts nil) (passed 0) (rls-compare-seconds 1.0e9) (rls-compare--joins t))
+    (dolist (x (reverse (rls-compare text other)))
+      (let* ((at (nth 0 x)) (to (+ at (nth 1 x))) (come (nth 2 x)))
+        ;; A part of a word comes in place of another one: both words are there, with a space between.
+        (when (and (string-match-p "[^\t-\r ]" (substring text at to)) (string-match-p "[^\t-\r ]" come))
+          (let ((end (or (string-match "[\t-\r ]" text to) (length text))))
+            (setq come (concat " " (substring text (string-match "[^\t-\r ]*\\'" (substring text 0 at)) at) come (substring text to end)) to end)))
+        (when (< passed to) (push (substring text passed to) parts))
+        (push come parts)
+        (setq passed (max passed to))))
+    (apply #'concat (nreverse (cons (substring text passed) parts)))))
 
 (defun rls--learn ()
   "Which member this is: the head of a message tells it.

@@ -135,6 +135,22 @@ local function no_time()
   assert(is_coarse and #found >= 400, #found)
   for k = #found, 1, -1 do old = old:sub(1, found[k].at) .. found[k].come .. old:sub(found[k].at + #found[k].gone + 1) end
   assert(old == new)
+  -- A buffer that is opened again is compared by words all the same: otherwise its words would be there twice.
+  local clock, calls = os.clock, 0
+  os.clock = function()
+    calls = calls + 1
+    return 1000 * calls
+  end
+  local joined = require('rls.replica').joined({ 'one two', 'three' }, { 'one two', 'three four' })
+  os.clock = clock
+  assert(vim.deep_equal(joined, { 'one two', 'three four' }), vim.inspect(joined))
+  joined = require('rls.replica').joined({ 'Then tea' }, { 'They tea' })
+  assert(vim.deep_equal(joined, { 'Then They tea' }), vim.inspect(joined))
+  -- One word more, and another one goes to the next line: each is there once.
+  local here = { 'a1 aaaa bbbb', 'cccc dddd eeee ffff gggg', 'hhhh iiii jjjj kkkk', 'llll mmmm' }
+  joined = require('rls.replica').joined(here, { 'aaaa bbbb', 'cccc dddd eeee ffff', 'gggg hhhh iiii jjjj kkkk', 'llll mmmm' })
+  local function words(list) return vim.split(vim.trim(table.concat(list, ' ')), '%s+') end
+  assert(vim.deep_equal(words(joined), words(here)), vim.inspect(joined))
 end
 
 local done, fault = pcall(function()

@@ -4,13 +4,14 @@ import { isHigh, isLow } from './text.js';
 const STEPS = 128; // members that go or come, after which it looks back and goes on from where it is
 const WORK = [300_000, 1_500_000]; // steps of the search, after which STEPS is 16, and then 4
 const DEPTH = 12; // anchors within anchors
+const BACK = 1000; // units back for which a better place is looked for
 const LINES = /[^\n]*\n|[^\n]+/g;
 const SPACE = '\\t-\\r ';
 const LETTER = '0-9A-Za-z_\\u00aa\\u00b5\\u00ba\\u00c0-\\u00d6\\u00d8-\\u00f6\\u00f8-\\u0dff\\u10a0-\\u1fff';
 const MARK =
   '\\u0300-\\u036f\\u1ab0-\\u1aff\\u1dc0-\\u1dff\\u200c\\u200d\\u20d0-\\u20ff\\ufe00-\\ufe0f\\ufe20-\\ufe2f\\u{1f3fb}-\\u{1f3ff}';
 const TOKENS = new RegExp(`[${LETTER}][${LETTER}${MARK}]*|[^${SPACE}](?:[${MARK}]|(?<=\\u200d)[^${SPACE}])*`, 'gu');
-const JOINED = new RegExp(`[${MARK}]`, 'uy');
+const JOINED = new RegExp(`[${MARK}]`, 'u');
 const WORDS_AND_SPACES = new RegExp(`[${SPACE}]+|[^${SPACE}]+`, 'g');
 const isSpace = (unit) => unit === 32 || (unit >= 9 && unit <= 13);
 const linesOf = (text) => text.match(LINES) ?? [];
@@ -190,21 +191,42 @@ function runsOf(a, b, byAnchors, work) {
       todo.push([i, end[0], j, end[1], depth + 1]);
       continue;
     }
-    while (i < m && j < n) {
-      const result = search(a, b, i, m, j, n, work.spent < WORK[0] ? STEPS : work.spent < WORK[1] ? 16 : 4, work);
-      let { runs } = result;
-      if (result.isDone) {
-        for (const run of runs) found.push(run);
-        break;
-      }
-      work.isCut = true;
-      const reach = ([x, y, count]) => x + y + 2 * count - i - j;
-      let keep = runs.length;
-      while (keep > 0 && runs[keep - 1][2] < 3) keep -= 1; // what it ends with may be chance
-      if (keep > 0 && 2 * reach(runs[keep - 1]) > reach(runs.at(-1))) runs = runs.slice(0, keep);
+    for (const run of longSearch(a, b, i, m, j, n, work)) found.push(run);
+  }
+  return found;
+}
+
+/** What stays of two parts without anchors. What the other part doesn't have is left out first. */
+function longSearch(a, b, i, m, j, n, work) {
+  const [mine, others] = [new Set(a.slice(i, m)), new Set(b.slice(j, n))];
+  const [x, y] = [[], []];
+  for (let k = i; k < m; k += 1) if (others.has(a[k])) x.push(k);
+  for (let k = j; k < n; k += 1) if (mine.has(b[k])) y.push(k);
+  const runs = [];
+  const found = onward(x.map((k) => a[k]), y.map((k) => b[k]), work);
+  if (x.length === m - i && y.length === n - j) return found.map(([p, q, count]) => [i + p, j + q, count]);
+  for (const [p, q, count] of found) for (let k = 0; k < count; k += 1) runs.push([x[p + k], y[q + k], 1]);
+  return runs;
+}
+
+/** What stays of two lists, by searches that go on where the last one ended. */
+function onward(a, b, work) {
+  const found = [];
+  const [m, n] = [a.length, b.length];
+  for (let i = 0, j = 0; i < m && j < n; ) {
+    const result = search(a, b, i, m, j, n, work.spent < WORK[0] ? STEPS : work.spent < WORK[1] ? 16 : 4, work);
+    let { runs } = result;
+    if (result.isDone) {
       for (const run of runs) found.push(run);
-      [i, j] = runs.length > 0 ? [runs.at(-1)[0] + runs.at(-1)[2], runs.at(-1)[1] + runs.at(-1)[2]] : [i + 1, j + 1];
+      break;
     }
+    work.isCut = true;
+    const reach = ([x, y, count]) => x + y + 2 * count - i - j;
+    let keep = runs.length;
+    while (keep > 0 && runs[keep - 1][2] < 3) keep -= 1; // what it ends with may be chance
+    if (keep > 0 && 2 * reach(runs[keep - 1]) > reach(runs.at(-1))) runs = runs.slice(0, keep);
+    for (const run of runs) found.push(run);
+    [i, j] = runs.length > 0 ? [runs.at(-1)[0] + runs.at(-1)[2], runs.at(-1)[1] + runs.at(-1)[2]] : [i + 1, j + 1];
   }
   return found;
 }
@@ -241,8 +263,7 @@ function isLineByLine(old, now) {
 const isJoined = (text, at) => {
   if (at <= 0 || at >= text.length) return false;
   if (text[at - 1] === '\u200d' || (isLow(text.charCodeAt(at)) && isHigh(text.charCodeAt(at - 1)))) return true;
-  JOINED.lastIndex = at;
-  return JOINED.test(text);
+  return text.charCodeAt(at) >= 0x300 && JOINED.test(String.fromCodePoint(text.codePointAt(at)));
 };
 
 const hasWord = (text, from, to) => {
@@ -251,7 +272,12 @@ const hasWord = (text, from, to) => {
   return at < to;
 };
 
-const losesLine = (old, a, m, now, b, n) => old.slice(a, m).includes('\n') && !now.slice(b, n).includes('\n');
+/** Whether a line feed goes that stands after the last word that goes, and none comes. */
+const losesLine = (old, a, m, now, b, n) => {
+  let at = m;
+  while (at > a && isSpace(old.charCodeAt(at - 1))) at -= 1;
+  return old.slice(at, m).includes('\n') && !now.slice(b, n).includes('\n');
+};
 
 const withoutSpaces = (text) => text.replace(/[\t-\r ]+/g, '');
 
@@ -297,7 +323,31 @@ class Comparison {
     if (p < m || q < n) while (p > a && (isJoined(old, p) || isJoined(now, q))) [p, q] = [p - 1, q - 1];
     while (s > p && t > q && old.charCodeAt(s - 1) === now.charCodeAt(t - 1)) [s, t] = [s - 1, t - 1];
     while (s < m && (isJoined(old, s) || isJoined(now, t))) [s, t] = [s + 1, t + 1];
-    if (s > p || t > q) this.found.push({ at: p, count: s - p, text: now.slice(q, t) });
+    if (s > p || t > q) this.#place(p, s, q, t);
+  }
+
+  /** What goes and what comes. Where one of them is nothing, it may have several places, and one that isn't within a word is taken. */
+  #place(p, s, q, t) {
+    const { old, now } = this;
+    let back = 0;
+    if (p === s || q === t) {
+      const last = this.found.at(-1);
+      const least = last ? last.at + last.count : 0;
+      const [side, end] = p === s ? [now, t] : [old, s];
+      let isWithin = this.#isWithinWord(p, s, q, t);
+      for (let k = 1; isWithin && k <= BACK && p - k >= least && old.charCodeAt(p - k) === side.charCodeAt(end - k); k += 1) {
+        isWithin = this.#isWithinWord(p - k, s - k, q - k, t - k);
+        if (!isWithin) back = k;
+      }
+    }
+    this.found.push({ at: p - back, count: s - p, text: now.slice(q - back, t - back) });
+  }
+
+  /** Whether a place is within a word, or between a character and what belongs to it. */
+  #isWithinWord(p, s, q, t) {
+    const { old, now } = this;
+    if (isJoined(old, p) || isJoined(old, s) || isJoined(now, q) || isJoined(now, t)) return true;
+    return p > 0 && s < old.length && !isSpace(old.charCodeAt(p - 1)) && !isSpace(old.charCodeAt(s));
   }
 
   /** Parts of both lists, one with one. */

@@ -132,17 +132,25 @@ endfunction
 
 " Where there is no time left, lines are compared with lines, and not as one piece.
 function s:no_time() abort
-  let g:rls_compare = -1
   let lines = map(range(400), {_, k -> printf('one %d two three', k)})
   let old = rls#lines#characters(lines)
   let new = rls#lines#characters(map(copy(lines), {_, x -> substitute(x, '\(\d\+\) two', 'two \1', '')}))
-  let found = rls#compare#Compared(old, new)
-  let g:rls_compare = 15
+  let found = rls#compare#Compared(old, new, -1.0)
   call s:want(rls#compare#WasCut() && len(found) >= 400, len(found) . ' places')
   for [at, to, from, end] in reverse(found)
     let old = (at > 0 ? old[: at - 1] : []) + (end > from ? new[from : end - 1] : []) + old[to :]
   endfor
   call s:want(old ==# new, 'what the places make of the text')
+  " A buffer that is opened again is compared by words all the same: otherwise its words would be there twice.
+  let g:rls_compare = -1
+  call s:want(rls#changes#joined(['one two', 'three'], ['one two', 'three four']) ==# ['one two', 'three four'], 'a buffer that is opened again')
+  let g:rls_compare = 15
+  call s:want(rls#changes#joined(['Then tea'], ['They tea']) ==# ['Then They tea'], 'two words at one place')
+  " One word more, and another one goes to the next line.
+  let here = ['a1 aaaa bbbb', 'cccc dddd eeee ffff gggg', 'hhhh iiii jjjj kkkk', 'llll mmmm']
+  let shown = ['aaaa bbbb', 'cccc dddd eeee ffff', 'gggg hhhh iiii jjjj kkkk', 'llll mmmm']
+  let words = split(join(rls#changes#joined(here, shown)))
+  call s:want(words ==# split(join(here)), 'each word once: ' . join(words))
 endfunction
 
 try

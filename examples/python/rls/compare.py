@@ -8,6 +8,7 @@ from typing import DefaultDict, List, NamedTuple, Sequence, Tuple
 STEPS = 128                 # members that go or come, after which it looks back and goes on from where it is
 WORK = (300_000, 1_500_000)   # steps of the search, after which STEPS is 16, and then 4
 DEPTH = 12                  # anchors within anchors
+BACK = 1000                 # characters back for which a better place is looked for
 SPACES = "\t\n\v\f\r "
 LINE = re.compile(r"[^\n]*\n|[^\n]+")
 WORD = re.compile(r"[^\t-\r ]+")
@@ -173,23 +174,43 @@ def _runs(a: Sequence[int], b: Sequence[int], by_anchors: bool, work: _Work) -> 
                     todo.append((x, p, y, q, depth + 1))
                 todo.append((i, anchors[0][0], j, anchors[0][1], depth + 1))
                 continue
-        while i < m and j < n:
-            done, runs = _search(a, b, i, m, j, n, work.steps(), work)
-            if done:
-                found += runs
-                break
-            work.cut = True
-            end = runs[-1][0] + runs[-1][1] + 2 * runs[-1][2] if runs else 0
-            keep = len(runs)
-            while keep and runs[keep - 1][2] < 3:       # what it ends with may be chance
-                keep -= 1
-            if keep and 2 * (runs[keep - 1][0] + runs[keep - 1][1] - i - j) > end - i - j:
-                runs = runs[:keep]
-            if not runs:
-                i, j = i + 1, j + 1
-                continue
+        found += _long_search(a, b, i, m, j, n, work)
+    return found
+
+
+def _long_search(a: Sequence[int], b: Sequence[int], i: int, m: int, j: int, n: int, work: _Work) -> List[Run]:
+    """What stays of two parts without anchors. What the other part doesn't have is left out first."""
+    both = set(a[i:m]).intersection(b[j:n])
+    if not both:
+        return []
+    x, y = [k for k in range(i, m) if a[k] in both], [k for k in range(j, n) if b[k] in both]
+    runs = _onward([a[k] for k in x], [b[k] for k in y], work)
+    if len(x) == m - i and len(y) == n - j:
+        return [(i + p, j + q, count) for p, q, count in runs]
+    return [(x[p + k], y[q + k], 1) for p, q, count in runs for k in range(count)]
+
+
+def _onward(a: Sequence[int], b: Sequence[int], work: _Work) -> List[Run]:
+    """What stays of two lists, by searches that go on where the last one ended."""
+    i, m, j, n = 0, len(a), 0, len(b)
+    found: List[Run] = []
+    while i < m and j < n:
+        done, runs = _search(a, b, i, m, j, n, work.steps(), work)
+        if done:
             found += runs
-            i, j = runs[-1][0] + runs[-1][2], runs[-1][1] + runs[-1][2]
+            break
+        work.cut = True
+        end = runs[-1][0] + runs[-1][1] + 2 * runs[-1][2] if runs else 0
+        keep = len(runs)
+        while keep and runs[keep - 1][2] < 3:           # what it ends with may be chance
+            keep -= 1
+        if keep and 2 * (runs[keep - 1][0] + runs[keep - 1][1] - i - j) > end - i - j:
+            runs = runs[:keep]
+        if not runs:
+            i, j = i + 1, j + 1
+            continue
+        found += runs
+        i, j = runs[-1][0] + runs[-1][2], runs[-1][1] + runs[-1][2]
     return found
 
 
@@ -236,6 +257,11 @@ def is_line_by_line(old: List[str], new: List[str]) -> bool:
     return 4 * alike >= 3 * looks
 
 
+def loses_line(gone: str, come: str) -> bool:
+    """Whether a line feed goes that stands after the last word that goes, and none comes."""
+    return "\n" in gone[len(gone.rstrip(SPACES)):] and "\n" not in come
+
+
 class _Comparison:
     def __init__(self, old: str, new: str) -> None:
         self.old, self.new, self.work = old, new, _Work()
@@ -251,7 +277,7 @@ class _Comparison:
         """What goes and what comes. White space that is left between two words keeps its last character, or gets a new one behind all of it."""
         old, new = self.old, self.new
         if 0 < a < m < len(old) and b < n and not WORD.search(new, b, n):
-            is_lost = "\n" in old[a:m] and "\n" not in new[b:n]
+            is_lost = loses_line(old[a:m], new[b:n])
             is_blank = not WORD.search(old, a, m)
             if is_lost or (is_blank and old[m - 1] != new[n - 1]):
                 while is_blank and a < m and b < n - 1 and old[a] == new[b]:
@@ -265,8 +291,7 @@ class _Comparison:
     def replace(self, a: int, m: int, b: int, n: int) -> None:
         """What goes and what comes, less what is equal at the front and at the end."""
         if a == m or b == n:
-            if a < m or b < n:
-                self.found.append(Replacement(a, m - a, self.new[b:n]))
+            self.place(a, m, b, n)
             return
         old, new = self.old, self.new
         p, q = a, b
@@ -279,8 +304,29 @@ class _Comparison:
             m, n = m - 1, n - 1
         while self.has_marks and m < m0 and (self.is_joined(old, m) or self.is_joined(new, n)):
             m, n = m + 1, n + 1
-        if m > p or n > q:
-            self.found.append(Replacement(p, m - p, new[q:n]))
+        self.place(p, m, q, n)
+
+    def place(self, p: int, m: int, q: int, n: int) -> None:
+        """What goes and what comes. Where one of them is nothing, it may have several places, and one that isn't within a word is taken."""
+        if p == m and q == n:
+            return
+        back = 0
+        if p == m or q == n:
+            least = self.found[-1].at + self.found[-1].count if self.found else 0
+            side, end = (self.new, n) if p == m else (self.old, m)
+            k, is_within = 0, self.is_within_word(p, m, q, n)
+            while is_within and k < BACK and p - k > least and self.old[p - k - 1] == side[end - k - 1]:
+                k += 1
+                is_within = self.is_within_word(p - k, m - k, q - k, n - k)
+            back = 0 if is_within else k
+        self.found.append(Replacement(p - back, m - p, self.new[q - back:n - back]))
+
+    def is_within_word(self, p: int, m: int, q: int, n: int) -> bool:
+        """Whether a place is within a word, or between a character and what belongs to it."""
+        old, new = self.old, self.new
+        if self.has_marks and (self.is_joined(old, p) or self.is_joined(old, m) or self.is_joined(new, q) or self.is_joined(new, n)):
+            return True
+        return p > 0 and m < len(old) and old[p - 1] not in SPACES and old[m] not in SPACES
 
     def in_proportion(self, a: int, old: List[str], b: int, new: List[str], parts: int, put) -> None:
         """Parts of both lists, one with one."""
@@ -327,7 +373,7 @@ class _Comparison:
         while s < self.high and old[s] in SPACES:
             s += 1
         q, t = b - a + p, n - m + s
-        return (p, s, q, t) if is_blank or "\n" not in new[q:t] else (a, m, b, n)
+        return (p, s, q, t) if is_blank or loses_line(old[p:s], new[q:t]) else (a, m, b, n)
 
     def stays(self, a: int, b: int, count: int) -> None:
         """So many characters stay; what is before them is done now. White space between white space that differs is a part of that."""

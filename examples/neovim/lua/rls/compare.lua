@@ -1,7 +1,6 @@
 -- Where two texts differ, so that what others write in between keeps its place: examples/COMPARE.md. Places count bytes from 0.
-local STEPS = 128 -- members that go or come, after which it looks back and goes on from where it is
-local WORK = { 300000, 1500000 } -- steps of the search, after which STEPS is 16, and then 4
-local DEPTH = 12 -- anchors within anchors
+local BACK = 1000 -- bytes back for which a better place is looked for
+local align = require('rls.align')
 local floor, min = math.floor, math.min
 
 local function is_space(byte) return byte == 32 or (byte >= 9 and byte <= 13) end
@@ -48,171 +47,6 @@ local function tokens_of(text, at)
     end
   end
   return tokens, starts
-end
-
--- The longest part of these pairs, which rise on the left, that rises on the right too.
-local function rising(pairs)
-  local tops, at, before = {}, {}, {}
-  for k, pair in ipairs(pairs) do
-    local low, high = 1, #tops + 1
-    while low < high do
-      local middle = floor((low + high) / 2)
-      if tops[middle] < pair[2] then low = middle + 1 else high = middle end
-    end
-    before[k] = at[low - 1] or 0
-    tops[low], at[low] = pair[2], k
-  end
-  local found, k = {}, at[#at] or 0
-  while k > 0 do
-    table.insert(found, pairs[k])
-    k = before[k]
-  end
-  return found -- the last first
-end
-
--- Where members (or so many in a row) are equal that are once in each, the last first.
-local function anchors_of(a, b, i, m, j, n, size)
-  local function once(list, from, to)
-    local found, keys = {}, {}
-    for k = from, to - size do
-      local key = size == 1 and list[k] or table.concat(list, ',', k, k + size - 1)
-      keys[k] = key
-      found[key] = found[key] and -1 or k
-    end
-    return found, keys
-  end
-  local mine, keys = once(a, i, m)
-  local other = once(b, j, n)
-  local pairs = {}
-  for k = i, m - size do
-    if mine[keys[k]] == k and (other[keys[k]] or -1) >= 0 then pairs[#pairs + 1] = { k, other[keys[k]] } end
-  end
-  return rising(pairs)
-end
-
-local function comes_at(was, base, k, d) return k == -d or (k ~= d and was[base + k - 1] < was[base + k + 1]) end
-
--- The least members that go and come, by Myers' greedy search; if it takes more than so many steps, the way that got furthest. The last run first.
-local function search(a, b, i, m, j, n, steps, work)
-  local wide, high, off = m - i, n - j, steps + 1
-  local far, trace, x, y, is_done, last = {}, {}, 0, 0, false, 0
-  for k = 0, 2 * steps + 2 do far[k] = 0 end
-  for d = 0, steps do
-    local was = {}
-    for k = 0, 2 * d + 2 do was[k] = far[off - d - 1 + k] end
-    trace[d], last = was, d
-    for k = -d, d, 2 do
-      x = comes_at(far, off, k, d) and far[off + k + 1] or far[off + k - 1] + 1
-      y = x - k
-      while x < wide and y < high and a[i + x] == b[j + y] do x, y = x + 1, y + 1 end
-      far[off + k] = x
-      if x >= wide and y >= high then
-        is_done = true
-        break
-      end
-    end
-    work.spent = work.spent + d + 1
-    if is_done then break end
-  end
-  if not is_done then
-    local best = -1
-    for k = -steps, steps, 2 do
-      local to = far[off + k]
-      if to <= wide and to - k <= high and 2 * to - k > best then best, x, y = 2 * to - k, to, to - k end
-    end
-  end
-  local runs = {}
-  for d = last, 1, -1 do
-    local was, k = trace[d], x - y -- was[d + 1 + k] is diagonal k
-    local comes = comes_at(was, d + 1, k, d)
-    local before = comes and k + 1 or k - 1
-    local p = was[d + 1 + before]
-    local start = comes and p or p + 1
-    if x > start then runs[#runs + 1] = { i + start, j + start - k, x - start } end
-    x, y = p, p - before
-  end
-  if x > 0 then runs[#runs + 1] = { i, j, x } end
-  return is_done, runs
-end
-
--- Which members stay, as runs (place, place, count). Both lists count from 0.
-local function runs_of(a, b, size_a, size_b, by_anchors, work)
-  local found, todo = {}, { { 0, size_a, 0, size_b, 0 } }
-  local function add(runs, from)
-    for k = #runs, from, -1 do found[#found + 1] = runs[k] end
-  end
-  while #todo > 0 do
-    local i, m, j, n, depth = unpack(table.remove(todo))
-    if depth < 0 then
-      found[#found + 1] = { i, j, m - i }
-    else
-      local k = i
-      while i < m and j < n and a[i] == b[j] do i, j = i + 1, j + 1 end
-      if i > k then found[#found + 1] = { k, j - i + k, i - k } end
-      k = m
-      while m > i and n > j and a[m - 1] == b[n - 1] do m, n = m - 1, n - 1 end
-      if k > m then todo[#todo + 1] = { m, k, n, n + k - m, -1 } end
-      local is_done, runs = i == m or j == n, {}
-      if not is_done and not by_anchors then is_done, runs = search(a, b, i, m, j, n, 16, work) end
-      if is_done then
-        add(runs, 1)
-      else
-        local anchors = {}
-        for _, size in ipairs(by_anchors and { 1 } or { 4, 1 }) do
-          if depth < DEPTH and #anchors == 0 then anchors = anchors_of(a, b, i, m, j, n, size) end
-        end
-        if #anchors > 0 then
-          local p, q = m, n
-          for _, anchor in ipairs(anchors) do
-            todo[#todo + 1] = { anchor[1], p, anchor[2], q, depth + 1 }
-            p, q = anchor[1], anchor[2]
-          end
-          todo[#todo + 1] = { i, p, j, q, depth + 1 }
-        else
-          while i < m and j < n do
-            is_done, runs = search(a, b, i, m, j, n, work.spent < WORK[1] and STEPS or work.spent < WORK[2] and 16 or 4, work)
-            if is_done then
-              add(runs, 1)
-              break
-            end
-            work.is_cut = true
-            local from = 1
-            while from <= #runs and runs[from][3] < 3 do from = from + 1 end -- what it ends with may be chance
-            local function reach(run) return run[1] + run[2] + 2 * run[3] - i - j end
-            if from > #runs or 2 * reach(runs[from]) <= reach(runs[1]) then from = 1 end
-            add(runs, from)
-            local end_of = runs[from]
-            if end_of then i, j = end_of[1] + end_of[3], end_of[2] + end_of[3] else i, j = i + 1, j + 1 end
-          end
-        end
-      end
-    end
-  end
-  return found
-end
-
--- Which members of two lists stay, as pairs of places that rise. What the other list doesn't have is left out first.
-local function align(old, new, by_anchors, work)
-  local numbers, olds = {}, {}
-  for k, x in ipairs(new) do numbers[x] = k end
-  for _, x in ipairs(old) do olds[x] = true end
-  local function kept(list, is_there)
-    local found, places, count = {}, {}, 0
-    for k, x in ipairs(list) do
-      if is_there[x] then
-        found[count], places[count] = numbers[x], k
-        count = count + 1
-      end
-    end
-    return found, places, count
-  end
-  local a, from, size_a = kept(old, numbers)
-  local b, to, size_b = kept(new, olds)
-  local pairs = {}
-  for _, run in ipairs(runs_of(a, b, size_a, size_b, by_anchors, work)) do
-    for k = 0, run[3] - 1 do pairs[#pairs + 1] = { from[run[1] + k], to[run[2] + k] } end
-  end
-  return pairs
 end
 
 local function front_of(old, new)
@@ -279,7 +113,12 @@ local function has_word(text, from, to)
   return at ~= nil and at <= to
 end
 
-local function loses_line(gone, come) return gone:find('\n', 1, true) and not come:find('\n', 1, true) end
+-- Whether a line feed goes that stands after the last word that goes, and none comes.
+local function loses_line(gone, come)
+  local at = #gone
+  while at > 0 and is_space(gone:byte(at)) do at = at - 1 end
+  return gone:find('\n', at + 1, true) and not come:find('\n', 1, true)
+end
 
 -- What goes and what comes. White space that is left between two words keeps its last character, or gets a new one behind all of it.
 function Comparison:put(a, m, b, n)
@@ -305,7 +144,32 @@ function Comparison:replace(a, m, b, n)
   end
   while s > p and t > q and old:byte(s) == new:byte(t) do s, t = s - 1, t - 1 end
   while s < m and (is_joined(old, s) or is_joined(new, t)) do s, t = s + 1, t + 1 end
-  if s > p or t > q then self.found[#self.found + 1] = { at = p, gone = old:sub(p + 1, s), come = new:sub(q + 1, t) } end
+  if s > p or t > q then self:place(p, s, q, t) end
+end
+
+-- What goes and what comes. Where one of them is nothing, it may have several places, and one that isn't within a word is taken.
+function Comparison:place(p, s, q, t)
+  local old, new, back = self.old, self.new, 0
+  if p == s or q == t then
+    local last = self.found[#self.found]
+    local least = last and last.at + #last.gone or 0
+    local side, tail = new, t
+    if p < s then side, tail = old, s end
+    local is_within, k = self:is_within_word(p, s, q, t), 0
+    while is_within and k < BACK and p - k > least and old:byte(p - k) == side:byte(tail - k) do
+      k = k + 1
+      is_within = self:is_within_word(p - k, s - k, q - k, t - k)
+    end
+    if not is_within then back = k end
+  end
+  self.found[#self.found + 1] = { at = p - back, gone = old:sub(p - back + 1, s - back), come = new:sub(q - back + 1, t - back) }
+end
+
+-- Whether a place is within a word, or between a character and what belongs to it.
+function Comparison:is_within_word(p, s, q, t)
+  local old, new = self.old, self.new
+  if is_joined(old, p) or is_joined(old, s) or is_joined(new, q) or is_joined(new, t) then return true end
+  return p > 0 and s < #old and not is_space(old:byte(p)) and not is_space(old:byte(s + 1))
 end
 
 -- Parts of both lists, one with one.
@@ -383,16 +247,16 @@ function Comparison:words(a, gone, b, come)
   if #old == 0 or #new == 0 then return end
   local pairs, same = align(old, new, false, self.work), 0
   for _, pair in ipairs(pairs) do same = same + #old[pair[1]] end
-  if 5 * same < min(size_of(old, 1, #old), size_of(new, 1, #new)) then return end
+  if not self.joins and 5 * same < min(size_of(old, 1, #old), size_of(new, 1, #new)) then return end
   for _, pair in ipairs(pairs) do self:stays(a + starts[pair[1]], b + begins[pair[2]], #old[pair[1]]) end
 end
 
 function Comparison:changed_lines(a, old, b, new)
   local gone, come = table.concat(old), table.concat(new)
   if gone:gsub('[\t-\r ]+', '') == come:gsub('[\t-\r ]+', '') then return self:same_but_spaces(a, gone, b, come) end
-  if #old ~= #new or not is_line_by_line(old, new) then old, new = { gone }, { come } end
+  if self.joins or #old ~= #new or not is_line_by_line(old, new) then old, new = { gone }, { come } end
   for k, line in ipairs(old) do
-    if vim.loop.hrtime() > self.late then self.work.is_cut = true else self:words(a, line, b, new[k]) end
+    if os.clock() > self.late then self.work.is_cut = true else self:words(a, line, b, new[k]) end
     a, b = a + #line, b + #new[k]
   end
 end
@@ -440,10 +304,11 @@ function Comparison:compare()
 end
 
 -- The replacements { at, gone, come } that make one text of another, from the first to the last, whose places are those of the old one; and
--- whether some parts were compared by cheaper means. After so many seconds (15, if not said otherwise) it goes on line by line.
-return function(old, new, seconds)
+-- whether some parts were compared by cheaper means. After so many seconds of the processor (15, if not said otherwise) it goes on line by line.
+-- Two that are put together are compared by words alone, since of words that went from one line to the next both would stay.
+return function(old, new, seconds, joins)
   local comparison = setmetatable({ old = old, new = new, at = 0, to = 0, low = 0, high = 0, found = {}, work = { spent = 0, is_cut = false },
-    late = vim.loop.hrtime() + (seconds or 15) * 1e9 }, Comparison)
+    late = os.clock() + (seconds or 15), joins = joins }, Comparison)
   comparison:compare()
   return comparison.found, comparison.work.is_cut
 end

@@ -422,13 +422,19 @@ function Replica:open_again()
   self:sync()
 end
 
--- The lines of one text with what another one has beside: nothing of the first goes.
+-- The lines of one text with what another one has beside: nothing of the first goes. It takes the time that it needs: of lines that aren't compared
+-- by words all would be there twice.
 function Replica.joined(lines, others)
   local old, parts, passed = table.concat(lines, '\n'), {}, 0
-  for _, place in ipairs((compared(old, table.concat(others, '\n')))) do
-    local to = place.at + #place.gone
-    vim.list_extend(parts, { old:sub(passed + 1, to), place.come })
-    passed = to
+  for _, place in ipairs((compared(old, table.concat(others, '\n'), math.huge, true))) do
+    local to, come = place.at + #place.gone, place.come
+    if place.gone:find('[^\t-\r ]') and come:find('[^\t-\r ]') then
+      -- A part of a word comes in place of another one: both words are there, with a space between.
+      local front, tail = old:sub(1, place.at):match('[^\t-\r ]*$'), old:match('^[^\t-\r ]*', to + 1)
+      to, come = to + #tail, ' ' .. front .. come .. tail
+    end
+    vim.list_extend(parts, { old:sub(passed + 1, to), come })
+    passed = math.max(passed, to)
   end
   parts[#parts + 1] = old:sub(passed + 1)
   return vim.split(table.concat(parts), '\n', { plain = true })

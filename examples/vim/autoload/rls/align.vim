@@ -5,11 +5,15 @@ const DEPTH = 12                        # anchors within anchors
 const SPEED = 200000                    # characters that it compares by words in a second
 
 var begun = reltime()
+var most = 15.0                         # seconds after which it goes on line by line
+var looked = 0                          # characters that were compared by words
 var spent = 0                           # steps of the search
 var cut = false                         # whether it went on by cheaper means
 
-export def Begin()
+export def Begin(seconds: float)
   begun = reltime()
+  most = seconds
+  looked = 0
   spent = 0
   cut = false
 enddef
@@ -23,9 +27,11 @@ export def Cut()
   cut = true
 enddef
 
-# Whether there is no time left to compare so many characters by words: then it goes on line by line.
+# Whether there is no time left to compare so many characters by words: then it goes on line by line. What takes a second of a processor has time
+# on the busiest machine.
 export def IsLate(characters: number): bool
-  return reltimefloat(reltime(begun)) + characters / SPEED > get(g:, 'rls_compare', 15)
+  looked += characters
+  return most < 0 || (looked > SPEED && reltimefloat(reltime(begun)) + characters / SPEED > most)
 enddef
 
 def Key(list: list<number>, k: number, size: number): string

@@ -74,7 +74,7 @@ function s:hand(r, first, old, new) abort
     echo 'rls: looking for what has changed'
     redraw
   endif
-  let places = rls#compare#Compared(gone, come)
+  let places = rls#compare#Compared(gone, come, g:rls_compare * 1.0)
   for [from, to, from_new, to_new] in places
     call s:end_group(a:r)
     call s:replace(a:r, at + from + moved, to - from, to_new > from_new ? come[from_new : to_new - 1] : [])
@@ -151,15 +151,36 @@ function rls#changes#end_group(r) abort
   let a:r.boundary = 1
 endfunction
 
-" The lines of one text with what another one has beside: nothing of the first goes.
+" The lines of one text with what another one has beside: nothing of the first goes. It takes the time that it needs: of lines that aren't compared by
+" words all would be there twice.
 function rls#changes#joined(lines, others) abort
   let [gone, come] = [rls#lines#characters(a:lines), rls#lines#characters(a:others)]
   let [all, passed] = [[], 0]
-  for [from, to, from_new, to_new] in rls#compare#Compared(gone, come)
+  for [from, to, from_new, to_new] in rls#compare#Compared(gone, come, 1.0e9, v:true)
     if to_new > from_new
-      let all += (to > passed ? gone[passed : to - 1] : []) + come[from_new : to_new - 1]
-      let passed = to
+      let [from_new, to, to_new, between] = s:whole_words(gone, from, to, come, from_new, to_new)
+      let all += (to > passed ? gone[passed : to - 1] : []) + between + come[from_new : to_new - 1]
+      let passed = max([passed, to])
     endif
   endfor
   return rls#lines#of_characters(all + gone[passed :])
+endfunction
+
+" If a part of a word comes in place of another one, both words are there, with a space between.
+function s:whole_words(gone, from, to, come, from_new, to_new) abort
+  let [from, to, from_new, to_new] = [a:from, a:to, a:from_new, a:to_new]
+  if !s:has_word(a:gone, from, to) || !s:has_word(a:come, from_new, to_new)
+    return [from_new, to, to_new, []]
+  endif
+  while from > 0 && from_new > 0 && a:gone[from - 1] == a:come[from_new - 1] && s:has_word(a:gone, from - 1, from)
+    let [from, from_new] -= [1, 1]
+  endwhile
+  while to < len(a:gone) && to_new < len(a:come) && a:gone[to] == a:come[to_new] && s:has_word(a:gone, to, to + 1)
+    let [to, to_new] += [1, 1]
+  endwhile
+  return [from_new, to, to_new, [32]]
+endfunction
+
+function s:has_word(text, from, to) abort
+  return a:to > a:from && indexof(a:text[a:from : a:to - 1], {_, c -> c != 32 && (c < 9 || c > 13)}) >= 0
 endfunction

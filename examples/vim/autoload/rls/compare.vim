@@ -3,12 +3,15 @@ vim9script
 # places count them from 0.
 import './align.vim'
 
+const BACK = 1000                       # characters back for which a better place is looked for
+
 var old: list<number>
 var new: list<number>
 var at: number                          # what is before is done, in the old and in the new text
 var to: number
 var low: number                         # the old text stays from here to `at`, and after a piece to `high`
 var high: number
+var joins: bool                         # whether both are put together, so that what stays may be chance, but nothing may be there twice
 var found: list<list<number>>           # where each replacement begins and ends in the old and in the new text
 
 def IsSpace(c: number): bool
@@ -69,6 +72,15 @@ def HasLine(text: list<number>, from: number, last: number): bool
   return from < last && index(text[from : last - 1], 10) >= 0
 enddef
 
+# Whether a line feed goes that stands after the last word that goes, and none comes.
+def LosesLine(a: number, m: number, b: number, n: number): bool
+  var end = m
+  while end > a && IsSpace(old[end - 1])
+    end -= 1
+  endwhile
+  return HasLine(old, end, m) && !HasLine(new, b, n)
+enddef
+
 # What goes and what comes. White space that is left between two words keeps its last character, or gets a new one behind all of it.
 def Put(a: number, m: number, b: number, n: number)
   if a == 0 || a == m || m == len(old) || b == n || HasWord(new, b, n)
@@ -76,7 +88,7 @@ def Put(a: number, m: number, b: number, n: number)
     return
   endif
   const is_blank = !HasWord(old, a, m)
-  if (HasLine(old, a, m) && !HasLine(new, b, n)) || (is_blank && old[m - 1] != new[n - 1])
+  if LosesLine(a, m, b, n) || (is_blank && old[m - 1] != new[n - 1])
     var front = 0
     while is_blank && a + front < m && b + front < n - 1 && old[a + front] == new[b + front]
       front += 1
@@ -114,8 +126,34 @@ def Replace(a: number, m: number, b: number, n: number)
     t += 1
   endwhile
   if s > p || t > q
-    add(found, [p, s, q, t])
+    Place(p, s, q, t)
   endif
+enddef
+
+# What goes and what comes. Where one of them is nothing, it may have several places, and one that isn't within a word is taken.
+def Place(p: number, s: number, q: number, t: number)
+  var back = 0
+  if p == s || q == t
+    const least = empty(found) ? 0 : found[-1][1]
+    var is_within = IsWithinWord(p, s, q, t)
+    var k = 1
+    while is_within && k <= BACK && p - k >= least && old[p - k] == (p == s ? new[t - k] : old[s - k])
+      is_within = IsWithinWord(p - k, s - k, q - k, t - k)
+      if !is_within
+        back = k
+      endif
+      k += 1
+    endwhile
+  endif
+  add(found, [p - back, s - back, q - back, t - back])
+enddef
+
+# Whether a place is within a word, or between a character and what belongs to it.
+def IsWithinWord(p: number, s: number, q: number, t: number): bool
+  if IsJoined(old, p) || IsJoined(old, s) || IsJoined(new, q) || IsJoined(new, t)
+    return true
+  endif
+  return p > 0 && s < len(old) && !IsSpace(old[p - 1]) && !IsSpace(old[s])
 enddef
 
 # Where lines end in a part of a text, or words and what is between them.
@@ -176,7 +214,7 @@ def WithSpacesBeside(a: number, m: number, b: number, n: number): list<number>
   endwhile
   const q = b - a + p
   const t = n - m + s
-  return is_blank || !HasLine(new, q, t) ? [p, s, q, t] : [a, m, b, n]
+  return is_blank || LosesLine(p, s, q, t) ? [p, s, q, t] : [a, m, b, n]
 enddef
 
 # Whether two parts are the same characters.
@@ -254,7 +292,7 @@ def ByWords(first: number, m: number, second: number, n: number)
     return
   endif
   const pairs = align.Align(Words(old, olds), Words(new, news), false)
-  if 5 * Size(mapnew(pairs, (_, x) => olds[x[0]])) < min([Size(olds), Size(news)])
+  if !joins && 5 * Size(mapnew(pairs, (_, x) => olds[x[0]])) < min([Size(olds), Size(news)])
     return
   endif
   for [i, j] in pairs
@@ -304,7 +342,10 @@ def SizesBefore(parts: list<string>): list<number>
 enddef
 
 # Where two texts, which are lists of characters, differ, from the first place to the last: where each begins and ends in the old and in the new text.
-export def Compared(gone: list<number>, come: list<number>): list<list<number>>
+# After so many seconds it goes on line by line. Two that are put together are compared by words alone, since of words that went from one line to the
+# next both would stay.
+export def Compared(gone: list<number>, come: list<number>, seconds: float, is_joined: bool = false): list<list<number>>
+  joins = is_joined
   # No string of Vim has the character 0.
   old = index(gone, 0) < 0 ? gone : mapnew(gone, (_, c) => c == 0 ? 0x110000 : c)
   new = index(come, 0) < 0 ? come : mapnew(come, (_, c) => c == 0 ? 0x110000 : c)
@@ -312,7 +353,7 @@ export def Compared(gone: list<number>, come: list<number>): list<list<number>>
   to = 0
   low = 0
   high = 0
-  align.Begin()
+  align.Begin(seconds)
   found = []
   const olds = Ends(old, 0, len(old), true)
   const news = Ends(new, 0, len(new), true)
@@ -331,7 +372,7 @@ export def Compared(gone: list<number>, come: list<number>): list<list<number>>
     if x > i && y > j
       if join(keys[0][i : x - 1], '') ==# join(keys[1][j : y - 1], '')
         SameButSpaces(a, p, b, q)
-      elseif x - i == y - j && IsLineByLine(lines[0][i : x - 1], lines[1][j : y - 1])
+      elseif !joins && x - i == y - j && IsLineByLine(lines[0][i : x - 1], lines[1][j : y - 1])
         for k in range(x - i)
           ByWords(k > 0 ? olds[i + k - 1] : a, olds[i + k], k > 0 ? news[j + k - 1] : b, news[j + k])
         endfor
