@@ -9,7 +9,7 @@ more() {
     share\ * | join\ * | sync\ * | who\ * | where\ * | drop\ * | give\ * | part\ *) circles "$@" ;;
     'edit --text') look edit </dev/null; edit_text "$3" ;;
     send*)
-      [ "$3" = --told ] || { is_command "$@" || refuse_words "$@"; }
+      [ "$3" = --told ] || { . "$top/bin/rls-explain.bash" && refuse_words "$@"; }
       look send
       look session </dev/null
       send_told "$2" "$4"
