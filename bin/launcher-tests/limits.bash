@@ -1,5 +1,6 @@
-# What bin/rls says where a limit is met: which one, both numbers, and the command that helps. A stand-in answers in place of the program, over a
-# replica whose files tell a size that they don't have, so that no large file is made. bin/test-rls reads this and sets `here`, `room` and `rls`.
+# What bin/rls says where a limit is met: which one, both numbers, and the command that helps; what still works, and that this command does help: each
+# row of docs/USE.md, "Where a limit is met". A stand-in answers in place of the program, over a replica whose files tell a size that they don't have,
+# so that no large file is made. bin/test-rls reads this and sets `here`, `room` and `rls`.
 # shellcheck shell=bash disable=SC2154
 
 mkdir slots file && (cd slots && "$rls" new 7 0 2 >/dev/null)
@@ -96,6 +97,65 @@ r|`rls restart GROUP ME MEMBERS`
 d 0 9|Delete in parts, or rename before: echo r | rls edit. Nothing was stored
 i 0 x|Rename before: echo r | rls edit. Nothing was stored
 END
+
+# --- More characters than one edit may have.
+while IFS='|' read -r number line; do
+  expect "too many characters: $line" 6 "$(answered 6 "line 1: too many characters $number" slots edits "$line")"
+  expect "too many characters: $line: the limits" yes "$(says "it has $number characters: an insertion may have 1,048,576, and a deletion or a rename 4,194,304. Nothing was stored")"
+done <<'END'
+1048577|i 0 x
+4194305|d 0 4194305
+4194305|r
+END
+
+# --- The input of a session is counted from its last `w` on, with the lines of messages. What came since then isn't stored.
+while IFS='|' read -r between wanted; do
+  rm -rf slots && mkdir slots && (cd slots && "$rls" new 7 0 2 >/dev/null)
+  expect "a session with two messages of 40 MB, between them '$between'" "$wanted" "$(
+    { printf 'i 0 a\nm 40000000\n' && head -c 40000000 /dev/zero && printf '%bi 0 b\nm 40000000\n' "$between" && head -c 40000000 /dev/zero; } |
+      (cd slots && status_of "$rls" session && "$rls" text) | xargs
+  )"
+done <<'END'
+|11
+w\n|0 ba
+i 0 c\nw\ni 0 d\n|0 bdca
+END
+rm -rf slots && mkdir slots && (cd slots && "$rls" new 7 0 2 >/dev/null && echo 'i 0 a' | "$rls" edit >/dev/null)
+expect 'a session with too much since its last w' '11 too large' "$(
+  { printf 'i 0 b\nw\ni 0 c\nm 70000000\n' && head -c 70000000 /dev/zero; } | (cd slots && status_of "$rls" session && cat ../err) | xargs
+)"
+expect 'a session with too much since its last w: what it stored is there' ba "$(cd slots && "$rls" text)"
+
+# --- A full file: what reads still works, and so does `rls restart`, which stores nothing there.
+real=${RLS_PROGRAM:-$here/.built/rls}
+printf '#!/bin/bash\ncase $PWD/$1 in */slots/edit | */slots/take | */slots/leave) cat >/dev/null; echo "too large" >&2; exit 11 ;; esac\nexec %q "$@"\n' "$real" >program
+while IFS='|' read -r wanted words; do
+  # shellcheck disable=SC2086
+  expect "a file that is full: $words" "$wanted" "$(cd slots && RLS_PROGRAM=$room/program status_of "$rls" $words <../a-message)"
+done <<'END'
+0|text
+0|stat
+0|ids
+0|check
+0|send 1
+11|edit
+11|take
+11|leave
+0|restart 8 0 2 ../goes-on
+END
+expect 'a file that is full: the text goes on' xba "$(cd goes-on && echo 'i 0 x' | "$rls" edit >/dev/null && "$rls" text)"
+expect 'a file that is full: it stays' ba "$(cd slots && "$rls" text)"
+
+# --- The numbers of one member.
+mkdir spent && (cd spent && "$rls" new 7 0 1 >/dev/null)
+printf '\377\377\377\376' | dd of="spent/replica.$(($(od -An -tu1 -N1 spent/replica.gate) & 1))" bs=1 seek=29 conv=notrunc status=none
+expect 'the last number of a member' 0 "$(cd spent && echo 'i 0 a' | status_of "$rls" edit)"
+for words in edit leave; do
+  expect "no number is left: $words" 6 "$(cd spent && echo 'i 0 b' | status_of "$rls" $words)"
+  expect "no number is left: $words: what helps" yes "$(says 'this member has made as many operations as there may be: begin with another number. Nothing was stored')"
+done
+expect 'no number is left: it is sent and taken' 'applied 0 released 0 repeated 0 held 0 refused 0' "$(cd spent && "$rls" send 0 >../spent.message 2>/dev/null && "$rls" take <../spent.message 2>/dev/null)"
+expect 'no number is left: the text goes on elsewhere' '0 xa' "$(cd spent && { status_of "$rls" restart 8 0 1 ../goes-on-too && cd ../goes-on-too && echo 'i 0 x' | "$rls" edit >/dev/null && "$rls" text; } | xargs)"
 
 # --- A file that has just grown: a rename is advised after `edit` where runs are many and all have the last rename, or the file is large; else an exchange.
 rm -f slots/replica.told
