@@ -99,6 +99,11 @@ chmod u+w readable readable/replica.* of-one 2>/dev/null
 # shellcheck source-path=SCRIPTDIR source=../rls-completion.bash
 complete_send() (. "$here/rls-completion.bash" && COMP_WORDS=(rls send '') COMP_CWORD=2 && _rls && echo "${COMPREPLY[*]}")
 expect 'the other members are completed' 0 "$(cd ben && complete_send 2>&1)"
+for slot in 0 1; do
+  rm -rf torn && cp -r ben torn && cp "ben/replica.$(($(od -An -tu1 -N1 ben/replica.gate) % 2))" "torn/replica.$slot"
+  : >"torn/replica.$((1 - slot))" && printf %b "\\0$slot" >torn/replica.gate
+  expect "the other members are completed by the slot that the gate names, $slot" 0 "$(cd torn && complete_send 2>&1)"
+done
 expect 'an empty gate is completed by nothing' '' "$(cd begun && : >replica.gate && rm replica.[01] && complete_send 2>&1)"
 
 # --- A replica in one file.

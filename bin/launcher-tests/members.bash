@@ -64,6 +64,10 @@ expect 'another number that nobody uses' 'retired 3' "$(cd y1 && "$rls" retire 3
 for _ in 1 2 3; do pass 0 1 && pass 1 0; done
 expect 'then nothing is kept' 'unstable 0' "$(cd y0 && "$rls" stat | grep unstable)"
 expect 'nor at the other member' 'unstable 0' "$(cd y1 && "$rls" stat | grep unstable)"
+for number in 4 5 99 01 x; do
+  expect "no number of a member: $number" 71 "$(cd y0 && status_of "$rls" retire $number)"
+  expect "no number of a member: $number: which there are" yes "$(says 'the members are numbered from 0 to 3')"
+done
 expect 'a number that only took, forced' 71 "$(cd y0 && RLS_FORCE=1 status_of "$rls" retire 1)"
 # The last member looks at lower numbers: one that nobody uses, and one that has taken only what the last member wrote.
 mkdir z0 z2 && for k in 0 2; do (cd z$k && "$rls" new 7 $k 4 >/dev/null); done
@@ -83,6 +87,11 @@ expect 'an operation that waits' 'applied 0 released 0 repeated 0 held 1 refused
 expect 'an operation that waits: it is said' yes "$(says 'operations that wait here for others that haven.t come: 1')"
 expect 'an operation that waits: what to do' yes "$(says 'Operations that wait for ever')"
 expect 'the same group again' 71 "$(cd old && status_of "$rls" restart 7 0 2)"
+for words in 'x 0 2' '8 x 2' '8 0 x' '8 -1 2' '8 0 2 there more'; do
+  # shellcheck disable=SC2086
+  expect "restart with the words $words" 1 "$(cd old && status_of "$rls" restart $words)"
+  expect "restart with the words $words: what to do" yes "$(says 'three numbers come after it, and the new folder if you want')"
+done
 expect 'a member that can not be' 4 "$(cd old && status_of "$rls" restart 8 2 2)"
 expect 'a member that can not be: what it means' yes "$(says 'it is below MEMBERS')"
 expect 'a member that can not be leaves no folder' old "$(echo old*)"

@@ -4,7 +4,7 @@ import { execFileSync } from 'node:child_process';
 import fs from 'node:fs';
 import path from 'node:path';
 import { test } from 'node:test';
-import { Mailbox, Session, Stale, UsedTwice } from './rls.js';
+import { Mailbox, RlsError, Session, Stale, UsedTwice } from './rls.js';
 import { folders, opened, random, rls, type, version } from './room.js';
 
 test('messages through a folder', async (t) => {
@@ -66,6 +66,19 @@ test('what others put into the folder', { timeout: 60_000 }, async (t) => {
   assert.deepEqual(failed.map(({ to }) => to), [2]);
   assert.equal(fs.readFileSync(victim, 'utf8'), 'mine');
   assert.ok(fs.lstatSync(box.path(0, 1)).isFile());
+});
+
+test('a message that a full replica can not take is taken once there is room, though its file is as it was', async (t) => {
+  const [a, b] = await opened(t, 2);
+  const shared = path.join(path.dirname(a.folder), 'shared');
+  const box = await Mailbox.open(shared, b);
+  await a.insert(0, 'one');
+  await (await Mailbox.open(shared, a)).send(a);
+  const take = t.mock.method(b, 'take', () => Promise.reject(new RlsError(11, 'too large')));
+  assert.deepEqual((await box.receive(b)).map(({ from, error }) => [from, error.status]), [[0, 11]]);
+  take.mock.restore();
+  assert.deepEqual((await box.receive(b)).map(({ from }) => from), [0]);
+  assert.equal(b.text, 'one');
 });
 
 test('files that were put back from a copy', async (t) => {
@@ -165,6 +178,21 @@ test('a number that two replicas use is told at once', async (t) => {
   for (const call of ['sync', 'send', 'receive']) await assert.rejects(boxes[1][call](b), /is used twice: another replica has this number/);
   assert.deepEqual(fs.readdirSync(boxes[0].folder).sort(), there);
   assert.deepEqual(await boxes[0].sync(a), { received: [], failed: [] });
+});
+
+test('whoever can not show its token writes no message', async (t) => {
+  const [a] = await opened(t, 1, 3);
+  const box = await Mailbox.open(path.join(path.dirname(a.folder), 'shared'), a);
+  await box.receive(a); // it has a token from here on
+  const token = fs.readFileSync(path.join(a.folder, 'replica.token'), 'latin1').slice(0, 16);
+  const name = path.join(box.folder, `${box.head.group}-0-${token}.member`);
+  fs.mkdirSync(path.join(name, 'taken'), { recursive: true });
+  await a.insert(0, 'x');
+  assert.deepEqual((await box.send(a)).map(({ to }) => to), [1, 2]);
+  assert.deepEqual(fs.readdirSync(box.folder), [path.basename(name)]);
+  fs.rmSync(name, { recursive: true });
+  assert.deepEqual(await box.send(a), []);
+  assert.equal(fs.readdirSync(box.folder).length, 3);
 });
 
 test('a number that two machines use, which see each other by the shared folder alone', async (t) => {
