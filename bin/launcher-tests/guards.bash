@@ -132,6 +132,23 @@ fi
 # --- A replica of one file becomes three, by the lines of docs/USE.md.
 sed -n '/^    size=.*replica.rls/,/^$/p' "$here/../docs/USE.md" >becomes
 expect 'the page has the lines' yes "$(grep -q replica.gate becomes && echo yes)"
+# Each form of files too: the first command that stores writes the newest.
+old_forms() {
+  local hello='01 7fffffff 00000000 00000001 00000000 00000005 00000005 68656c6c6f 00000001 00000000 00000001 0000000000000000 00 00 00000001 01 7fffffff 00000000 00000001 00000000 00000005 68656c6c6f 00000000'
+  local head='0000000000000007 00000002 00000000 0000000100000000 0000000000000000'
+  echo "3 524c5346 03 $head 00000001 00000001 00000000 00000005 00000000 00000001 00 00000001 00000001 $hello"
+  echo "2 524c5346 02 $head 00000001 00000001 00000005 00000000 00000001 00 00000001 00000001 $hello"
+  echo "1 $(od -An -v -tx1 oldest/replica.rls | tr -d '\n')"
+}
+form_of() { od -An -tu1 -j $((8 + 4)) -N1 "$1/replica.$(($(od -An -tu1 -N1 "$1/replica.gate") & 1))" | tr -d ' '; }
+while read -r form bytes; do
+  rm -rf one && mkdir one && printf %b "$(sed 's/ //g; s/../\\x&/g' <<<"$bytes")" >one/replica.rls
+  expect "a file of form $form: its text" hello "$(cd one && "$rls" text)"
+  (cd one && "$rls" stat >../before && "$rls" ids >>../before)
+  (cd one && bash -e ../becomes >../out 2>../err)
+  expect "a file of form $form becomes three: nothing else" "$form" "$(cd one && { "$rls" stat && "$rls" ids; } | cmp ../before - 2>&1; form_of .)"
+  expect "a file of form $form becomes three: it is edited" '0 4 xhello' "$(cd one && echo 'i 0 x' | status_of "$rls" edit | tr '\n' ' '; form_of . | tr '\n' ' '; "$rls" text; rm -f ../replica.old)"
+done < <(old_forms)
 for script in '' "i 0 $(head -c 70000 /dev/zero | tr '\0' y)"; do
   rm -rf one && mkdir one && cp "$here/../examples/hello/replica.rls" one
   [ -z "$script" ] || (cd one && echo "$script" | "$rls" edit >../out 2>&1)
