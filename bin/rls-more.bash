@@ -238,15 +238,24 @@ retire() {
 
 # --- restart GROUP ME MEMBERS [FOLDER]
 
+# Sets `numbers`, and keeps the text in the room, of a large file: from a copy without the operations that wait, of which the program holds each in
+# memory, with some 24 times its bytes. A file for which that doesn't go well is read whole.
+read_apart() {
+  local number=0 stored before
+  . "$top/bin/rls-explain.bash"
+  stored_size && find_stored && [ "$number" -ge 16777216 ] && command -v python3 >/dev/null && mkdir "$room/apart" || return
+  PYTHONPATH=$top/examples/python PYTHONDONTWRITEBYTECODE=1 python3 -S -m rls.waiting "$stored" "$before" "$number" >"$room/apart/replica.rls" 2>/dev/null &&
+    numbers=$(cd "$room/apart" && "$program" stat 2>/dev/null) && (cd "$room/apart" && exec "$program" text) >"$room/text" 2>/dev/null && rm -r "$room/apart"
+}
+
 # Begins a replica of another group in a new folder, with the text of this one, and changes nothing here.
 restart() {
   local folder=${4-} numbers
   [[ $1 =~ ^[0-9]+$ && $2 =~ ^[0-9]+$ && $3 =~ ^[0-9]+$ ]] || { . "$top/bin/rls-explain.bash" && refuse_words restart "$@"; }
   make_room
-  numbers=$(perform stat) || exit
+  read_apart || { numbers=$(perform stat) && perform text >"$room/text"; } || exit
   [ "$(number_of group)" != "$1" ] ||
     stays "this text has number $1 itself, and its operations would be mixed with those of the new one. Take a GROUP that no text of these members has."
-  perform text >"$room/text" || exit
   : >"$room/nothing" && write_script "$room/nothing" "$room/text"
   [ -n "$folder" ] || folder=$(dirname -- "$PWD")/$(basename -- "$PWD")-$1
   case $folder in /*) ;; *) folder=$PWD/$folder ;; esac

@@ -116,6 +116,39 @@ expect 'a new group of an empty text' "restarted 8 0 1 in $room/empty-8" "$(cd e
 printf 'a\0\\b\r\n\303\251' >odd
 expect 'a new group of odd characters' 0 "$(cd empty && "$rls" edit --text ../odd >/dev/null 2>&1; "$rls" restart 9 0 1 >/dev/null && cd ../empty-9 && "$rls" text | cmp - ../odd; echo $?)"
 
+# A large file: what waits is left out of what is read, so that memory is enough. An operation of member 1 that waits, of 16,777,216 bytes and one tuple.
+mkdir large && (cd large && "$rls" new 7 0 2 >/dev/null && printf 'i 0 one\\ntwo\ni 3 , \nr\nd 1 2\ni 0 \303\251\ni 1 x\nd 2 1\nr\ni 0 y\n' | "$rls" edit >/dev/null)
+kept_of() { local slot=$1/replica.$(($(od -An -tu1 -N1 "$1/replica.gate") & 1)); tail -c +9 "$slot" | head -c $((0x$(od -An -tx1 -N8 "$slot" | tr -d ' '))); }
+kept_of large >kept
+{
+  printf 'RLSM\3\0\0\0\0\0\0\0\7\0\0\0\2\0\0\0\1\0\0\0\0\0\0\0\2\0\0\0\1\0\0\0\1\0\0\0\2\0\0\0\0\0\0\0\1\0\1\0\0\0\1\0\377\377\322'
+  head -c 16777169 /dev/zero && printf '\1\177\377\377\377\0\0\0\1\0\0\0\1\0\0\0\0\0\0\0\1'
+} >waits-long
+expect 'a large operation waits' 'applied 0 released 0 repeated 0 held 1 refused 0' "$(cd large && "$rls" take <../waits-long 2>/dev/null)"
+if command -v python3 >/dev/null 2>&1; then
+  kept_of large >with-waiting
+  size=$(wc -c <with-waiting)
+  while read -r bytes wanted; do
+    expect "a file without what waits: $bytes of $size bytes" "$wanted" "$({
+      PYTHONPATH=$here/../examples/python PYTHONDONTWRITEBYTECODE=1 status_of python3 -S -m rls.waiting with-waiting 0 "$bytes"
+      cmp -s out kept && echo same
+    } | xargs)"
+  done <<END
+$size 0 same
+$((size - 1)) 0 same
+60 1
+$((size + 1)) 1
+END
+  # A program that has no memory for what waits.
+  printf '#!/bin/bash\ncase "$PWD $1" in */large\\ [st]*) echo "out of memory" >&2; exit 10 ;; esac\nexec %q "$@"\n' "${RLS_PROGRAM:-$here/.built/rls}" >little && chmod +x little
+  expect 'a new group of a large file' 0 "$(cd large && RLS_PROGRAM=$room/little status_of "$rls" restart 8 0 2)"
+  expect 'a new group of a large file has the text' "$(cd large && "$rls" text)" "$(cd large-8 && "$rls" text)"
+  mkdir failing && printf '#!/bin/sh\nexit 1\n' >failing/python3 && chmod +x failing/python3
+  expect 'a new group of a large file that is read whole' 0 "$(cd large && PATH=$room/failing:$PATH status_of "$rls" restart 9 0 2)"
+  expect 'a new group of a large file that is read whole has the text' "$(cd large && "$rls" text)" "$(cd large-9 && "$rls" text)"
+  expect 'a new group of a large file, where no memory is enough' 10 "$(cd large && PATH=$room/failing:$PATH RLS_PROGRAM=$room/little status_of "$rls" restart 10 0 2)"
+fi
+
 # --- The head of a message.
 expect 'the head of a message' 'group 8
 members 2
