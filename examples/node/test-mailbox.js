@@ -229,6 +229,11 @@ test('a copy of a replica, and a message by a client that shows no token', async
   fs.cpSync(folder, copy, { recursive: true });
   const { box, message } = await write(folder, 'two '.repeat(40));
   await assert.rejects(write(copy, 'three '), /a copy of this replica wrote there/);
+  // A copy that wrote as often, elsewhere.
+  const note = path.join(copy, 'replica.token');
+  const [token, count] = fs.readFileSync(note, 'latin1').split(' ');
+  fs.writeFileSync(note, `${token} ${(BigInt(count) + 1n).toString().padStart(20, '0')} 0000000000000007\n`);
+  await assert.rejects(write(copy, 'three '), /a copy of this replica wrote there/);
   for (const name of fs.readdirSync(shared)) fs.rmSync(path.join(shared, name));
   fs.writeFileSync(box.path(0, 1), message);
   await assert.rejects(write(folders(1, 3)[0], 'four '), /more operations of this number/);
@@ -248,4 +253,12 @@ test('a round in which nothing has changed asks nothing, and writes nothing', as
   await a.insert(0, 'more '.repeat(40));
   await box.sync(a);
   assert.notEqual(fs.statSync(box.path(0, 1)).ino, inode);
+});
+
+test('what could not be taken is told by each round', async (t) => {
+  const [a] = await opened(t, 1, 2);
+  const box = await Mailbox.open(path.join(path.dirname(a.folder), 'shared'), a);
+  for (let round = 0; round < 3; round += 1) await box.sync(a);
+  fs.writeFileSync(box.path(1, 0), 'junk');
+  for (let round = 0; round < 3; round += 1) assert.deepEqual((await box.sync(a)).received.map(({ from }) => from), [1]);
 });

@@ -13,6 +13,7 @@ import warnings
 from unittest import mock
 
 from room import HERE, Room
+import rls.stored
 import rls.tokens
 from rls import Change, Commands, Head, Mailbox, Refused, RlsError, Session, Stale, UsedTwice, applied, changes, crossed, limits, place_after, script
 
@@ -460,6 +461,13 @@ class Twice(Room):
         Mailbox(self.path("shared"), a.head()).sync(a)
         with self.assertRaisesRegex(UsedTwice, "a copy of this replica wrote there"):
             Mailbox(self.path("shared"), b.head()).sync(b)
+        # One that wrote as often, elsewhere.
+        with open(os.path.join(b.folder, rls.tokens.NOTE), "r+", encoding="ascii") as note:
+            token, count, _ = note.read().split()
+            note.seek(0)
+            note.write(f"{token} {int(count) + 1:020d} {7:016x}\n")
+        with self.assertRaisesRegex(UsedTwice, "a copy of this replica wrote there"):
+            Mailbox(self.path("shared"), b.head()).sync(b)
 
     def test_by_a_message(self):
         """An older client shows no token, but what it writes at the names of this number has too many operations."""
@@ -517,6 +525,25 @@ class Idle(Room):
             Mailbox(self.path("shared"), other.head()).sync(other)
             self.assertEqual([len(found) for found, _ in round_of(folders)], [0] * 7 + [1] + [0] * 32)
         self.assertIn("theirs", notes[7].text())
+
+    def test_what_could_not_be_taken_is_told_by_each_round(self):
+        a, b = self.two()
+        box = Mailbox(self.path("shared"), a.head())
+        for _ in range(3):
+            box.sync(a)
+        with open(box.path(1, 0), "wb") as f:
+            f.write(b"junk")
+        self.assertEqual([[sender for sender, _ in box.sync(a)[0]] for _ in range(3)], [[1]] * 3)
+
+    def test_the_gate_counts(self):
+        """A store that was stopped has written its slot; the next one that names it may write nothing else."""
+        a, _ = self.two()
+        before = rls.stored.state_of(a.folder)
+        with open(os.path.join(a.folder, "replica.gate"), "r+b") as gate:
+            byte = gate.read(1)[0]
+            gate.seek(0)
+            gate.write(bytes([byte ^ 1]))
+        self.assertNotEqual(rls.stored.state_of(a.folder), before)
 
     def test_what_is_there_is_not_written_again(self):
         a, b = self.two()
