@@ -51,7 +51,7 @@ expect 'part: there is no part any more' 2 "$(of ada sync ../shared)"
 mkdir telling && printf '#!/bin/sh\necho "$RLS, $PYTHONPYCACHEPREFIX, $PYTHONDONTWRITEBYTECODE"\n' >telling/python3 && chmod +x telling/python3
 while IFS='|' read -r words wanted; do
   # shellcheck disable=SC2086
-  expect "what Python is told, with $words" "${RLS_PROGRAM:-$here/.built/rls}, $wanted" "$(PATH=$room/telling:$PATH env -u HOME -u XDG_CACHE_HOME $words "$rls" who)"
+  expect "what Python is told, with $words" "${RLS_PROGRAM:-$here/.built/rls}, $wanted" "$(PATH=$room/telling:$PATH env -u HOME -u XDG_CACHE_HOME -u PYTHONDONTWRITEBYTECODE $words "$rls" who)"
 done <<'END'
 HOME=/home/ada|/home/ada/.cache/rls,
 HOME=/home/ada XDG_CACHE_HOME=/cache|/cache/rls,
