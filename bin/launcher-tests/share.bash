@@ -48,14 +48,14 @@ expect 'part, of who gives the numbers' 71 "$(of ben part ../shared)"
 expect 'part' 0 "$(of ada part ../shared)"
 expect 'part: there is no part any more' 2 "$(of ada sync ../shared)"
 # What Python is told: the program, and where it keeps what it compiles, which isn't the checkout.
-mkdir telling && printf '#!/bin/sh\necho "$RLS, $PYTHONPYCACHEPREFIX, $PYTHONDONTWRITEBYTECODE"\n' >telling/python3 && chmod +x telling/python3
+mkdir telling && printf '#!/bin/sh\necho "$RLS, $PYTHONPYCACHEPREFIX, $PYTHONDONTWRITEBYTECODE."\n' >telling/python3 && chmod +x telling/python3
 while IFS='|' read -r words wanted; do
   # shellcheck disable=SC2086
   expect "what Python is told, with $words" "${RLS_PROGRAM:-$here/.built/rls}, $wanted" "$(PATH=$room/telling:$PATH env -u HOME -u XDG_CACHE_HOME -u PYTHONDONTWRITEBYTECODE $words "$rls" who)"
 done <<'END'
-HOME=/home/ada|/home/ada/.cache/rls,
-HOME=/home/ada XDG_CACHE_HOME=/cache|/cache/rls,
-A=|, 1
+HOME=/home/ada|/home/ada/.cache/rls, .
+HOME=/home/ada XDG_CACHE_HOME=/cache|/cache/rls, .
+A=|, 1.
 END
 # All programs but python3.
 mkdir none && ln -s /usr/bin/* /bin/* none/ 2>/dev/null
