@@ -255,10 +255,19 @@ test('a round in which nothing has changed asks nothing, and writes nothing', as
   assert.notEqual(fs.statSync(box.path(0, 1)).ino, inode);
 });
 
-test('what could not be taken is told by each round', async (t) => {
-  const [a] = await opened(t, 1, 2);
+test('what could not be taken or written is told by each round', async (t) => {
+  const [a] = await opened(t, 1, 3);
   const box = await Mailbox.open(path.join(path.dirname(a.folder), 'shared'), a);
-  for (let round = 0; round < 3; round += 1) await box.sync(a);
+  const rounds = async () => {
+    const found = [];
+    for (let round = 0; round < 3; round += 1) found.push(await box.sync(a));
+    return found.map(({ received, failed }) => [received.map(({ from }) => from), failed.map(({ to }) => to)]);
+  };
+  await rounds();
   fs.writeFileSync(box.path(1, 0), 'junk');
-  for (let round = 0; round < 3; round += 1) assert.deepEqual((await box.sync(a)).received.map(({ from }) => from), [1]);
+  assert.deepEqual(await rounds(), Array(3).fill([[1], []]));
+  fs.rmSync(box.path(1, 0));
+  fs.rmSync(box.path(0, 2));
+  fs.mkdirSync(box.path(0, 2));
+  assert.deepEqual(await rounds(), Array(3).fill([[], [2]]));
 });
