@@ -247,6 +247,14 @@ def streams(room):
         folder = room.replica(kind, FRESH)
         room.run(folder, ["edit"], SCRIPT, close=closed_all[:2])
         room.check(kind + ": no output in the files", not any(b"edits" in data for data in files_of(folder).values()))
+        # Where the numbers of closed streams can't be taken no file of the folder is opened: it would get such a number.
+        for closed in ((0,), (1,), (2,), closed_all):
+            for number in (1, 2, 3):
+                for words in ("text", "edit", "leave"):
+                    folder = room.replica(kind, HELLO)
+                    was = files_of(folder)
+                    result = room.run(folder, [words], SCRIPT, calls={"FAIL": "open:%d:%d" % (number, errno.EMFILE)}, close=closed)
+                    room.check("%s: %s without %s, and no file can be opened" % (kind, words, closed), result.status == 7 and files_of(folder) == was, result)
     for how, status in (({"close": (1,)}, 9), ({"output": full}, 9), ({"close": closed_all}, 9), ({"close": (0,)}, 0), ({"close": (2,)}, 0)):
         folder = room.replica("slots", None)
         room.equal("new with %s" % how, (room.run(folder, ["new", "7", "0", "2"], **how).status, kept(folder)), (status, FRESH))
