@@ -47,11 +47,11 @@ expect 'a script that is too large: which limit' yes "$(says 'the script has 67,
 truncate -s 70000000 script
 expect 'a file that is too large a script' 11 "$(answered 11 'too large' slots "$rls" edit <script)"
 expect 'a file that is too large a script: its size' yes "$(says 'the script has 70,000,000 bytes or more, and may have 67,108,864')"
-parts=$(sed -n 's/^rls: \(split .*\)$/\1/p' err)
+in_parts=$(sed -n 's/^rls: \(split .*\)$/\1/p' err)
 sized 66 && rm -rf slots && mkdir slots && (cd slots && "$rls" new 7 0 2 >/dev/null)
 printf 'i 0 b\ni 0 a\n' >script
 # (`rls` of the words that it says is this one)
-expect 'a script that is too large: in parts' ab "$(cd slots && rls() { "$here/rls" "$@" >/dev/null; } && eval "${parts/SCRIPT/../script}" && rls text && "$rls" text)"
+expect 'a script that is too large: in parts' ab "$(cd slots && rls() { "$here/rls" "$@" >/dev/null; } && eval "${in_parts/SCRIPT/../script}" && rls text && "$rls" text)"
 truncate -s 70000000 long-message
 expect 'a message that is too large' 11 "$(answered 11 'too large' slots "$rls" take <long-message)"
 expect 'a message that is too large: which limit' yes "$(says 'the message has 70,000,000 bytes or more, and may have 67,108,864')"
