@@ -82,10 +82,10 @@ is_of_release() { sources_here && [ "$here" = "${release[sources]-}" ]; }
 # Copies the released program beside the note of the choice, so that nothing else runs until it is chosen anew, with its time, by which bin/rls sees
 # another one in its place. Where there is no room for it, the released program is compared for each command.
 keep_release() {
-  local copy=$built/released.$$
+  local copy=$built/rls-released.$$
   {
-    if cp -p "$released_program" "$copy" && [ "$(sum_of_input <"$copy")" = "${release[program]}" ] && mv -f "$copy" "$built/released"; then
-      program=$built/released
+    if cp -p "$released_program" "$copy" && [ "$(sum_of_input <"$copy")" = "${release[program]}" ] && mv -f "$copy" "$built/rls-released"; then
+      program=$built/rls-released
       return
     fi
     rm -f "$copy"
