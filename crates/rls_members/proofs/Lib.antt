@@ -1,0 +1,10 @@
+mod Numerals
+mod Lives
+mod Led
+mod Ran
+mod Clean
+mod Commands
+mod Kept
+mod Taken
+mod Sat
+mod Fresh

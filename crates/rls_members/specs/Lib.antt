@@ -1,0 +1,3 @@
+pub mod Members
+pub mod Running
+pub mod Sessions
